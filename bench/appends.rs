@@ -1,9 +1,10 @@
 // The measure of crates/bench/src/appends.rt in plain Rust: the same four calls of the same file.
-use std::env;
+mod log;
+
+use log::{run, tell};
 use std::fs::{self, File, OpenOptions};
 use std::io;
 use std::os::unix::fs::FileExt;
-use std::process::ExitCode;
 use std::time::Instant;
 
 const NAME: &str = "bench.log";
@@ -25,7 +26,7 @@ fn append(file: &File, end: u64, buffer: &mut [u8]) -> io::Result<u64> {
     Ok(end + buffer.len() as u64)
 }
 
-fn measure(count: u32) -> io::Result<()> {
+fn measure(count: u64) -> io::Result<()> {
     let _ = fs::remove_file(NAME);
     let file = OpenOptions::new().read(true).write(true).create_new(true).open(NAME)?;
     file.sync_all()?;
@@ -41,15 +42,10 @@ fn measure(count: u32) -> io::Result<()> {
     let took = start.elapsed();
     let size = fs::metadata(NAME)?.len();
     fs::remove_file(NAME)?;
-    eprintln!("append {count} {} {size}", took.as_nanos());
+    tell("append", count, took, size);
     Ok(())
 }
 
-fn main() -> ExitCode {
-    let words: Vec<String> = env::args().collect();
-    let count = words.get(2).and_then(|word| word.parse().ok());
-    match (words.get(1).map(String::as_str), count.map(measure)) {
-        (Some("appends"), Some(Ok(()))) => ExitCode::SUCCESS,
-        _ => ExitCode::FAILURE,
-    }
+fn main() {
+    run(|name, count| if name == "appends" { measure(count).ok() } else { None })
 }

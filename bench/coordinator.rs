@@ -2,11 +2,9 @@
 // tests, and the decisions by place in a queue and by id in a map.
 mod log;
 
-use log::{Change, Condition, Disk, Entry, Journal, Object, Record, Tuple, User, Want, WriteId, decode_batch};
+use log::{Change, Condition, Disk, Entry, Journal, Object, Record, Tuple, Want, WriteId, decode_batch, run, tell, tuple};
 use std::collections::{BTreeMap, BTreeSet, VecDeque};
-use std::env;
 use std::hint::black_box;
-use std::process::exit;
 use std::time::{Duration, Instant};
 
 const GROUP: u64 = 100;
@@ -19,27 +17,13 @@ const COORDINATOR: u8 = 255;
 
 // ---- writes
 
-fn tuple(number: u64) -> Tuple {
-    Tuple {
-        object: Object {
-            namespace: b"doc".to_vec(),
-            id: format!("d{number}").into_bytes(),
-        },
-        relation: b"viewer".to_vec(),
-        user: User::Id(b"u1".to_vec()),
-    }
-}
-
 struct Write {
     changes: Vec<Change>,
     conditions: Vec<Condition>,
 }
 
 fn write(number: u64) -> Write {
-    Write {
-        changes: vec![Change::Touch(tuple(number))],
-        conditions: Vec::new(),
-    }
+    Write { changes: vec![Change::Touch(tuple(format!("d{number}"), "viewer", "u1".into()))], conditions: Vec::new() }
 }
 
 fn shard_of(object: &Object, shards: u8) -> u8 {
@@ -92,10 +76,7 @@ impl Shard {
             return None;
         }
         self.journal.flush();
-        Some(Vote {
-            id: intent.entry.id,
-            shard: 0,
-        })
+        Some(Vote { id: intent.entry.id, shard: 0 })
     }
 }
 
@@ -213,12 +194,7 @@ impl Coordinator {
         let (so_far, end) = replayed(&disk)?;
         let mut journal = Journal::over(disk, end);
         let epoch = so_far.epoch + 1;
-        journal.stage(&Record::Epoch {
-            epoch,
-            store: 1,
-            shards: SHARDS,
-            node: COORDINATOR,
-        });
+        journal.stage(&Record::Epoch { epoch, store: 1, shards: SHARDS, node: COORDINATOR });
         journal.flush();
         let kept = so_far.ledger.end();
         Some(Coordinator {
@@ -245,17 +221,8 @@ impl Coordinator {
         }
         self.given += 1;
         self.open_numbers.push(self.given);
-        let id = WriteId {
-            epoch: self.epoch,
-            number: self.given,
-        };
-        Some(Intent {
-            entry: Entry {
-                id,
-                changes: write.changes,
-                conditions: write.conditions,
-            },
-        })
+        let id = WriteId { epoch: self.epoch, number: self.given };
+        Some(Intent { entry: Entry { id, changes: write.changes, conditions: write.conditions } })
     }
 
     fn decide(&mut self, intent: Intent, votes: Vec<Vote>) -> Option<Decided> {
@@ -265,10 +232,7 @@ impl Coordinator {
         }
         drop(votes);
         let place = self.ledger.end() + 1;
-        let decision = Record::Decision {
-            place,
-            entry: intent.entry,
-        };
+        let decision = Record::Decision { place, entry: intent.entry };
         if !self.journal.stage(&decision) {
             return None;
         }
@@ -276,10 +240,7 @@ impl Coordinator {
         if let Record::Decision { entry, .. } = decision {
             self.ledger.push(entry);
         }
-        Some(Decided {
-            place,
-            epoch: self.epoch,
-        })
+        Some(Decided { place, epoch: self.epoch })
     }
 
     fn flush(&mut self) {
@@ -307,10 +268,7 @@ fn decide_each(coordinator: &mut Coordinator, voted: &mut Vec<(Intent, Vec<Vote>
 
 fn decide(groups: u64) -> Option<()> {
     let mut coordinator = Coordinator::open(Disk::default())?;
-    let mut shard = Shard {
-        journal: Journal::new(),
-        held: BTreeSet::new(),
-    };
+    let mut shard = Shard { journal: Journal::new(), held: BTreeSet::new() };
     let (mut beginning, mut deciding) = (Duration::ZERO, Duration::ZERO);
     let mut sum = 0u64;
     for group in 0..groups {
@@ -338,35 +296,20 @@ fn decide(groups: u64) -> Option<()> {
         deciding += start.elapsed();
     }
     let amount = groups * GROUP;
-    eprintln!("begin {amount} {} {}", beginning.as_nanos(), coordinator.given);
-    eprintln!("decide {amount} {} {sum}", deciding.as_nanos());
+    tell("begin", amount, beginning, coordinator.given);
+    tell("decide", amount, deciding, sum);
     Some(())
 }
 
 /// A disk with the first opening of a coordinator, and so many decisions.
 fn log_of(decisions: u64) -> Option<Disk> {
     let mut journal = Journal::new();
-    journal.stage(&Record::Epoch {
-        epoch: 1,
-        store: 1,
-        shards: SHARDS,
-        node: COORDINATOR,
-    });
+    journal.stage(&Record::Epoch { epoch: 1, store: 1, shards: SHARDS, node: COORDINATOR });
     for number in 1..=decisions {
-        let Write {
-            changes,
-            conditions,
-        } = write(number);
+        let Write { changes, conditions } = write(number);
         let id = WriteId { epoch: 1, number };
-        let entry = Entry {
-            id,
-            changes,
-            conditions,
-        };
-        let decision = Record::Decision {
-            place: number,
-            entry,
-        };
+        let entry = Entry { id, changes, conditions };
+        let decision = Record::Decision { place: number, entry };
         if !journal.stage(&decision) {
             journal.flush();
             journal.stage(&decision).then_some(())?;
@@ -379,7 +322,7 @@ fn log_of(decisions: u64) -> Option<Disk> {
 fn log(decisions: u64) -> Option<()> {
     let start = Instant::now();
     let disk = black_box(log_of(decisions)?);
-    eprintln!("log {decisions} {} {}", start.elapsed().as_nanos(), disk.seen.len());
+    tell("log", decisions, start.elapsed(), disk.seen.len() as u64);
     Some(())
 }
 
@@ -387,18 +330,15 @@ fn opening(decisions: u64) -> Option<()> {
     let disk = log_of(decisions)?;
     let start = Instant::now();
     let coordinator = black_box(Coordinator::open(disk)?);
-    eprintln!("opening {decisions} {} {}", start.elapsed().as_nanos(), coordinator.kept);
+    tell("opening", decisions, start.elapsed(), coordinator.kept);
     Some(())
 }
 
 fn main() {
-    let words: Vec<String> = env::args().collect();
-    let number = words.get(2).and_then(|word| word.parse::<u64>().ok());
-    let done = match (words.get(1).map(String::as_str), number) {
-        (Some("decisions"), Some(groups)) => decide(groups),
-        (Some("log"), Some(count)) => log(count),
-        (Some("opening"), Some(count)) => opening(count),
+    run(|name, number| match name {
+        "decisions" => decide(number),
+        "log" => log(number),
+        "opening" => opening(number),
         _ => None,
-    };
-    exit(i32::from(done.is_none()))
+    })
 }

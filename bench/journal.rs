@@ -2,16 +2,13 @@
 // that keeps its calls.
 mod log;
 
-use log::{Journal, VERSION, WriteId, decode_batch, put_id, put_u64};
-use std::env;
+use log::{Journal, VERSION, WriteId, decode_batch, put_id, put_u64, run, tell};
 use std::hint::black_box;
-use std::process::exit;
 use std::time::Instant;
 
 // ---- the measures
 
-const TOUCH_WHERE_ABSENT: [u8; 38] =
-    *b"\x01\x01\x03doc\x01a\x06viewer\x01\x02u1\x01\x03doc\x01a\x06viewer\x01\x02u1\x03";
+const TOUCH_WHERE_ABSENT: [u8; 38] = *b"\x01\x01\x03doc\x01a\x06viewer\x01\x02u1\x01\x03doc\x01a\x06viewer\x01\x02u1\x03";
 
 fn batch_of(count: u16) -> Vec<u8> {
     let mut bytes = vec![VERSION];
@@ -20,13 +17,7 @@ fn batch_of(count: u16) -> Vec<u8> {
         let number = u64::from(i);
         if i % 2 == 0 {
             bytes.push(1);
-            put_id(
-                &mut bytes,
-                &WriteId {
-                    epoch: 1,
-                    number: number + 1,
-                },
-            );
+            put_id(&mut bytes, &WriteId { epoch: 1, number: number + 1 });
             bytes.extend_from_slice(&TOUCH_WHERE_ABSENT);
         } else {
             bytes.push(2);
@@ -66,8 +57,8 @@ fn codec(rounds: u32) -> Option<()> {
         return None;
     }
     let amount = u64::from(rounds) * 1_000;
-    eprintln!("encode {amount} {} {size}", encoding.as_nanos());
-    eprintln!("decode {amount} {} {count}", decoding.as_nanos());
+    tell("encode", amount, encoding, size as u64);
+    tell("decode", amount, decoding, count as u64);
     Some(())
 }
 
@@ -92,17 +83,14 @@ fn flush(count: u16) -> Option<()> {
     let calls = (journal.disk.calls - before) / u64::from(rounds).max(1);
     let size = u64::from(rounds) * bytes.len() as u64;
     black_box(&journal.disk.history);
-    eprintln!("flush {size} {} {calls}", took.as_nanos());
+    tell("flush", size, took, calls);
     Some(())
 }
 
 fn main() {
-    let words: Vec<String> = env::args().collect();
-    let number = words.get(2).and_then(|word| word.parse::<u32>().ok());
-    let done = match (words.get(1).map(String::as_str), number) {
-        (Some("codec"), Some(rounds)) => codec(rounds),
-        (Some("flush"), Some(count)) => u16::try_from(count).ok().and_then(flush),
+    run(|name, number| match name {
+        "codec" => codec(u32::try_from(number).ok()?),
+        "flush" => flush(u16::try_from(number).ok()?),
         _ => None,
-    };
-    exit(i32::from(done.is_none()))
+    })
 }

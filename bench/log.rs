@@ -1,6 +1,10 @@
-// Records, a disk in memory that keeps its calls, a gated log and a journal over it, in plain Rust: what the measures of
-// journal.rs and coordinator.rs stand on.
-#![allow(dead_code)] // each of the two uses a part, and some fields are only written, as they would be by a node
+// Records, a disk in memory that keeps its calls, a gated log and a journal over it, in plain Rust, and how a measure is run and told: what the measures
+// beside this file stand on.
+#![allow(dead_code)] // each of them uses a part, and some fields are only written, as they would be by a node
+
+use std::env;
+use std::process::exit;
+use std::time::Duration;
 
 pub const VERSION: u8 = 2;
 const MAX_BODY: usize = 1 << 20;
@@ -69,22 +73,17 @@ pub struct Part {
 
 pub enum Record {
     Prepare(Entry),
-    Learned {
-        to: u64,
-        parts: Vec<Part>,
-    },
+    Learned { to: u64, parts: Vec<Part> },
     Dropped(WriteId),
-    Epoch {
-        epoch: u64,
-        store: u64,
-        shards: u8,
-        node: u8,
-    },
-    Decision {
-        place: u64,
-        entry: Entry,
-    },
+    Epoch { epoch: u64, store: u64, shards: u8, node: u8 },
+    Decision { place: u64, entry: Entry },
     Horizon(u64),
+}
+
+/// The tuple of an object of `doc`.
+pub fn tuple(id: String, relation: &str, user: String) -> Tuple {
+    let object = Object { namespace: b"doc".to_vec(), id: id.into_bytes() };
+    Tuple { object, relation: relation.into(), user: User::Id(user.into_bytes()) }
 }
 
 // ---- writing
@@ -165,12 +164,7 @@ impl Record {
                 out.push(3);
                 put_id(out, id);
             }
-            Record::Epoch {
-                epoch,
-                store,
-                shards,
-                node,
-            } => {
+            Record::Epoch { epoch, store, shards, node } => {
                 out.push(4);
                 put_u64(out, *epoch);
                 put_u64(out, *store);
@@ -307,14 +301,7 @@ pub fn entry_of(bytes: &[u8]) -> Option<(Entry, &[u8])> {
     let (count, rest) = byte_of(rest).filter(|(count, _)| *count <= 16)?;
     let (conditions, rest) = many_of(usize::from(count), rest, condition_of)?;
     let is_distinct = are_distinct(&changes, Change::tuple) && are_distinct(&conditions, |condition| &condition.tuple);
-    is_distinct.then_some((
-        Entry {
-            id,
-            changes,
-            conditions,
-        },
-        rest,
-    ))
+    is_distinct.then_some((Entry { id, changes, conditions }, rest))
 }
 
 pub fn part_of(bytes: &[u8]) -> Option<(Part, &[u8])> {
@@ -337,15 +324,7 @@ pub fn epoch_of(bytes: &[u8]) -> Option<(Record, &[u8])> {
     let (store, rest) = u64_of(rest)?;
     let (shards, rest) = byte_of(rest).filter(|(shards, _)| (1..=64).contains(shards))?;
     let (node, rest) = byte_of(rest)?;
-    Some((
-        Record::Epoch {
-            epoch,
-            store,
-            shards,
-            node,
-        },
-        rest,
-    ))
+    Some((Record::Epoch { epoch, store, shards, node }, rest))
 }
 
 pub fn record_of(bytes: &[u8]) -> Option<(Record, &[u8])> {
@@ -396,10 +375,7 @@ impl Disk {
         let over = bytes.len().min(self.seen.len() - at);
         self.seen.extend_from_slice(&bytes[over..]);
         self.seen[at..at + over].copy_from_slice(&bytes[..over]);
-        self.history.push(Call::Write {
-            at,
-            bytes: bytes.to_vec(),
-        });
+        self.history.push(Call::Write { at, bytes: bytes.to_vec() });
     }
 
     pub fn sync(&mut self) {
@@ -444,12 +420,7 @@ impl Journal {
     pub fn over(disk: Disk, end: usize) -> Journal {
         let mut staged = Vec::with_capacity(MAX_BODY + (1 << 16));
         staged.extend_from_slice(&[0; 7]);
-        Journal {
-            disk,
-            end,
-            staged,
-            count: 0,
-        }
+        Journal { disk, end, staged, count: 0 }
     }
 
     pub fn stage(&mut self, record: &Record) -> bool {
@@ -480,4 +451,19 @@ impl Journal {
         self.staged.truncate(7);
         self.count = 0;
     }
+}
+
+// ---- measures
+
+/// Prints what a measure took, and an answer by which it is known to have done the same as another program.
+pub fn tell(name: &str, amount: u64, took: Duration, answer: u64) {
+    eprintln!("{name} {amount} {} {answer}", took.as_nanos());
+}
+
+/// Runs the measure that the command line names, with its number, which is 0 where there is none.
+pub fn run(measure: impl Fn(&str, u64) -> Option<()>) {
+    let words: Vec<String> = env::args().collect();
+    let number = words.get(2).map_or(Some(0), |word| word.parse().ok());
+    let done = words.get(1).zip(number).and_then(|(name, number)| measure(name, number));
+    exit(i32::from(done.is_none()))
 }

@@ -1,7 +1,7 @@
 // The measure of crates/bench/src/texts.rt in plain Rust: the same grammar, texts and passes.
-mod log;
+pub mod log;
 
-use log::{Object, Tuple, User, is_id_byte, is_name_byte};
+use log::{Object, Tuple, User, is_id_byte, is_name_byte, run, tell};
 use std::time::Instant;
 
 const TEXTS: u64 = 1000;
@@ -11,7 +11,7 @@ fn split_first(text: &[u8], mark: u8) -> Option<(&[u8], &[u8])> {
     Some((&text[..at], &text[at + 1..]))
 }
 
-fn name(bytes: &[u8]) -> Option<Vec<u8>> {
+pub fn name(bytes: &[u8]) -> Option<Vec<u8>> {
     let fits = !bytes.is_empty() && bytes.len() <= 64 && bytes.iter().all(|b| is_name_byte(*b));
     fits.then(|| bytes.to_vec())
 }
@@ -21,7 +21,7 @@ fn id(bytes: &[u8]) -> Option<Vec<u8>> {
     fits.then(|| bytes.to_vec())
 }
 
-fn object_of(text: &[u8]) -> Option<Object> {
+pub fn object_of(text: &[u8]) -> Option<Object> {
     let (namespace, rest) = split_first(text, b':')?;
     Some(Object { namespace: name(namespace)?, id: id(rest)? })
 }
@@ -31,7 +31,7 @@ fn userset_of(text: &[u8]) -> Option<(Object, Vec<u8>)> {
     Some((object_of(object)?, name(relation)?))
 }
 
-fn user_of(text: &[u8]) -> Option<User> {
+pub fn user_of(text: &[u8]) -> Option<User> {
     if text.contains(&b':') {
         let (object, relation) = userset_of(text)?;
         Some(User::Set { object, relation })
@@ -40,7 +40,7 @@ fn user_of(text: &[u8]) -> Option<User> {
     }
 }
 
-fn tuple_of(text: &[u8]) -> Option<Tuple> {
+pub fn tuple_of(text: &[u8]) -> Option<Tuple> {
     let (front, user) = split_first(text, b'@')?;
     let (object, relation) = userset_of(front)?;
     Some(Tuple { object, relation, user: user_of(user)? })
@@ -54,7 +54,7 @@ fn write_userset(object: &Object, relation: &[u8], out: &mut Vec<u8>) {
     out.extend_from_slice(relation);
 }
 
-fn write_tuple(tuple: &Tuple, out: &mut Vec<u8>) {
+pub fn write_tuple(tuple: &Tuple, out: &mut Vec<u8>) {
     write_userset(&tuple.object, &tuple.relation, out);
     out.push(b'@');
     match &tuple.user {
@@ -88,20 +88,14 @@ fn write_all(tuples: &[Tuple], out: &mut Vec<u8>) {
     }
 }
 
-fn main() {
-    let words: Vec<String> = std::env::args().collect();
-    let count = match words.as_slice() {
-        [_, name, count] if name == "texts" => count.parse::<u64>().ok(),
-        _ => None,
-    };
-    let count = count.expect("texts and a count are wanted");
+fn measure(count: u64) -> Option<()> {
     let passes = count / TEXTS;
     let all = count - count % TEXTS;
     let texts = texts();
     let mut tuples = Vec::new();
     let start = Instant::now();
     for _ in 0..passes {
-        parse_all(&texts, &mut tuples).expect("each text is a tuple");
+        parse_all(&texts, &mut tuples)?;
     }
     let parsed = start.elapsed();
     let mut out = Vec::new();
@@ -110,6 +104,11 @@ fn main() {
         write_all(&tuples, &mut out);
     }
     let written = start.elapsed();
-    eprintln!("parse {all} {} {}", parsed.as_nanos(), tuples.len());
-    eprintln!("write {all} {} {}", written.as_nanos(), out.len());
+    tell("parse", all, parsed, tuples.len() as u64);
+    tell("write", all, written, out.len() as u64);
+    Some(())
+}
+
+fn main() {
+    run(|name, count| if name == "texts" { measure(count) } else { None })
 }

@@ -1,4 +1,7 @@
 // The measures of crates/bench/src/latest.rt and pairs.rt in plain Rust: a load of an `AtomicU64`, and a `VecDeque` under a `Mutex`.
+mod log;
+
+use log::{run, tell};
 use std::collections::VecDeque;
 use std::hint::black_box;
 use std::sync::atomic::{AtomicU64, Ordering};
@@ -43,10 +46,7 @@ fn look(word: &AtomicU64) -> u64 {
 fn by_four(word: &AtomicU64, load: fn(&AtomicU64) -> u64) -> u64 {
     thread::scope(|scope| {
         let threads = [(); 4].map(|()| scope.spawn(|| load(word)));
-        threads
-            .into_iter()
-            .map(|thread| thread.join().unwrap())
-            .sum()
+        threads.into_iter().map(|thread| thread.join().unwrap()).sum()
     })
 }
 
@@ -119,25 +119,23 @@ fn hand_over(queue: &Queue, count: u64) -> u64 {
     })
 }
 
-fn main() {
-    let words: Vec<String> = std::env::args().collect();
-    let measure = words.get(1).map_or("", String::as_str);
-    let count = words.get(2).map(|word| word.parse::<u32>().expect("a count is a number"));
+fn measure(measure: &str, count: u64) -> Option<()> {
     let word = black_box(AtomicU64::new(0));
     let queue = Queue::new();
     let start = Instant::now();
-    let (name, amount, answer) = match (measure, count.map(u64::from)) {
-        ("latest-by-one", None) => ("latest", LOADS, load_inlined(&word)),
-        ("latest-by-four", None) => ("latest", 4 * LOADS, by_four(&word, load_inlined)),
-        ("called-by-one", None) => ("latest", LOADS, load_called(&word)),
-        ("called-by-four", None) => ("latest", 4 * LOADS, by_four(&word, load_called)),
-        ("pairs-by-one", Some(count)) => ("pairs", count, put_and_take(&queue, count)),
-        ("pairs-by-two", Some(count)) => ("pairs", count, hand_over(&queue, count)),
-        _ => {
-            eprintln!("a measure is wanted, with its count where it takes one");
-            std::process::exit(2);
-        }
+    let (name, amount, answer) = match measure {
+        "latest-by-one" => ("latest", LOADS, load_inlined(&word)),
+        "latest-by-four" => ("latest", 4 * LOADS, by_four(&word, load_inlined)),
+        "called-by-one" => ("latest", LOADS, load_called(&word)),
+        "called-by-four" => ("latest", 4 * LOADS, by_four(&word, load_called)),
+        "pairs-by-one" => ("pairs", count, put_and_take(&queue, count)),
+        "pairs-by-two" => ("pairs", count, hand_over(&queue, count)),
+        _ => return None,
     };
-    let elapsed = start.elapsed();
-    eprintln!("{name} {amount} {} {}", elapsed.as_nanos(), black_box(answer));
+    tell(name, amount, start.elapsed(), black_box(answer));
+    Some(())
+}
+
+fn main() {
+    run(measure)
 }

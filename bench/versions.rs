@@ -1,9 +1,8 @@
 // The measure of crates/bench/src/rows.rt in plain Rust: the same rows in a map by tuple, and the same reads.
 mod log;
 
-use log::{Object, Tuple, User};
+use log::{Object, Tuple, User, run, tell, tuple};
 use std::collections::{BTreeMap, BTreeSet};
-use std::env;
 use std::time::Instant;
 
 const USERS: u64 = 10;
@@ -27,20 +26,12 @@ struct ByUser {
 impl ByUser {
     fn of(tuple: Tuple) -> ByUser {
         let Object { namespace, id } = tuple.object;
-        ByUser {
-            namespace,
-            user: tuple.user,
-            id,
-            relation: tuple.relation,
-        }
+        ByUser { namespace, user: tuple.user, id, relation: tuple.relation }
     }
 
     fn tuple(&self) -> Tuple {
         Tuple {
-            object: Object {
-                namespace: self.namespace.clone(),
-                id: self.id.clone(),
-            },
+            object: Object { namespace: self.namespace.clone(), id: self.id.clone() },
             relation: self.relation.clone(),
             user: self.user.clone(),
         }
@@ -53,26 +44,12 @@ struct Versions {
     users: BTreeSet<ByUser>,
 }
 
-fn tuple(object: String, relation: &str, user: String) -> Tuple {
-    Tuple {
-        object: Object {
-            namespace: b"doc".to_vec(),
-            id: object.into_bytes(),
-        },
-        relation: relation.into(),
-        user: User::Id(user.into_bytes()),
-    }
-}
-
 fn viewer(object: u64, user: u64) -> Tuple {
     tuple(format!("d{object}"), "viewer", format!("u{user}"))
 }
 
 fn apply(versions: &mut Versions, place: u64, tuple: &Tuple) {
-    let row = Row {
-        place,
-        is_touch: true,
-    };
+    let row = Row { place, is_touch: true };
     if let Some(rows) = versions.rows.get_mut(tuple) {
         rows.push(row);
         return;
@@ -110,21 +87,13 @@ fn read_key(versions: &Versions, place: u64, key: &Tuple) -> usize {
 }
 
 fn read_object(versions: &Versions, place: u64, object: &Object, relation: Option<&[u8]>) -> usize {
-    let first = Tuple {
-        object: object.clone(),
-        relation: relation.unwrap_or(b"0").to_vec(),
-        user: User::Id(b"!".to_vec()),
-    };
-    kept_from(versions, place, first, |tuple| tuple.object == *object && relation.is_none_or(|given| tuple.relation == given)).len()
+    let first = Tuple { object: object.clone(), relation: relation.unwrap_or(b"0").to_vec(), user: User::Id(b"!".to_vec()) };
+    kept_from(versions, place, first, |tuple| tuple.object == *object && relation.is_none_or(|given| tuple.relation == given))
+        .len()
 }
 
 fn read_user(versions: &Versions, place: u64, namespace: &[u8], user: &User) -> usize {
-    let first = ByUser {
-        namespace: namespace.to_vec(),
-        user: user.clone(),
-        id: b"!".to_vec(),
-        relation: b"0".to_vec(),
-    };
+    let first = ByUser { namespace: namespace.to_vec(), user: user.clone(), id: b"!".to_vec(), relation: b"0".to_vec() };
     let mut kept = Vec::new();
     for named in versions.users.range(first..) {
         if named.namespace != namespace || named.user != *user {
@@ -158,10 +127,6 @@ fn collect(versions: &mut Versions, horizon: u64) {
     }
 }
 
-fn print(name: &str, amount: u64, start: Instant, answer: usize) {
-    eprintln!("{name} {amount} {} {answer}", start.elapsed().as_nanos());
-}
-
 // One read stands before the clock, as in the proved program.
 fn print_reads(name: &str, read: impl Fn() -> usize) {
     let mut found = read();
@@ -169,7 +134,7 @@ fn print_reads(name: &str, read: impl Fn() -> usize) {
     for _ in 0..READS {
         found = read();
     }
-    print(name, READS, start, found);
+    tell(name, READS, start.elapsed(), found as u64);
 }
 
 fn measure(rows: u64) {
@@ -179,7 +144,7 @@ fn measure(rows: u64) {
     for (i, change) in changes.iter().enumerate() {
         apply(&mut versions, i as u64 + 1, change);
     }
-    print("apply", rows, start, changes.len());
+    tell("apply", rows, start.elapsed(), rows);
     let key = viewer(5, 3);
     print_reads("key", || read_key(&versions, rows, &key));
     print_reads("object", || read_object(&versions, rows, &key.object, None));
@@ -195,20 +160,15 @@ fn measure(rows: u64) {
     print_reads("user", || read_user(&versions, u64::MAX, b"doc", &me));
     let start = Instant::now();
     let last = newest(&versions, &changes);
-    print("last", rows, start, last as usize);
+    tell("last", rows, start.elapsed(), last);
     for (i, change) in changes.iter().enumerate() {
         apply(&mut versions, rows + i as u64 + 1, change);
     }
     let start = Instant::now();
     collect(&mut versions, rows + rows / 2);
-    let elapsed = start.elapsed().as_nanos();
-    eprintln!("collect {rows} {elapsed} {}", newest(&versions, &changes));
+    tell("collect", rows, start.elapsed(), newest(&versions, &changes));
 }
 
 fn main() {
-    let words: Vec<String> = env::args().skip(1).collect();
-    match words.iter().map(String::as_str).collect::<Vec<_>>()[..] {
-        ["versions", rows] => measure(rows.parse().expect("a number of rows")),
-        _ => panic!("versions ROWS"),
-    }
+    run(|name, rows| (name == "versions").then(|| measure(rows)))
 }

@@ -334,8 +334,8 @@ def test_command_lines(folder):
         status, out, err = run("call", *words)
         must(status == 2 and not out and err, f"is {(status, out, err)}: {words}")
     for words, says in (
-        (["a", "--slow", "check", ANN], "'--slow' is no word of a request, and options stand before its first word"),
-        (["a", "check", ANN, "--timeout", "3"], "'--timeout' is no word of a request"),
+        (["a", "--slow", "check", ANN], "'--slow' is not a word of a request; options come before its first word"),
+        (["a", "check", ANN, "--timeout", "3"], "'--timeout' is not a word of a request"),
         (["a", "--follow", "check", ANN], "--follow stands before a watch, and this is none"),
         (["a", "--follow", json.dumps(check(ANN))], "--follow stands before a watch, and this is none"),
         (["a", "--timeout", "0", "check", ANN], "--timeout takes a number from 1 to 4294967295"),

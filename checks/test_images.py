@@ -5,7 +5,7 @@ cut off, left out or doubled, a field of a record, a record, a batch, a bank, or
 to say of it what a reader of docs/FORMAT.md says that shares no code with the store: that it is damaged, or what the node finds, and which bytes it writes
 as it is opened. Most rules of the format have to be the only one that refuses some image, so that a store without one of them would be noticed. Some images
 whose answers were worked out by hand are given to both; and whole stores with one such change lie in files, and `zanstore dump` has to print what that
-reader makes of them. `--seed` and `--count` say which changes, and how many.
+reader makes of them. Stores in the first version of the format tell what they told, and their checkpoints are in the second. `--seed` and `--count` say which changes, and how many.
 """
 import os
 from collections import Counter
@@ -20,6 +20,7 @@ from imaging.format import Rules
 from imaging.making import fault_of, few_shards, has_no_checkpoint, in_first_version, reads_alike, real_images, with_checkpoints
 from imaging.replaying import answer, is_found_without
 from imaging.rows import ROWS, given_and_told, text_of
+from imaging.upgrading import upgraded
 from programs import TOP, harness, lines_of, run
 from sweeping.wrong_programs import program_with
 from verdicts import none
@@ -127,10 +128,18 @@ def test_dumps(pool, asked):
     assert min(statuses[0], statuses[1]) * 5 >= sum(statuses.values()), "too few dumps were printed, or too few refused"
 
 
+def test_first_version(pool, asked):
+    parts = [*pool.map(upgraded, right_images(asked.seed or 1)[0])]
+    nodes = sum(it[0] for it in parts)
+    print(f"first version: {len(parts)} stores, {nodes} nodes of version 1")
+    none(fault for it in parts for fault in it[1])
+    assert nodes >= len(parts), "too few nodes were of version 1"
+
+
 @pytest.mark.wrong
 @pytest.mark.parametrize("name", WRONG)
 def test_wrong(name, asked, monkeypatch):
-    with program_with(name, "harness", "images", edits=WRONG) as program:
+    with program_with(name, "harness", WRONG) as program:
         monkeypatch.setenv("HARNESS", program)
         by_hand, changes = [*worked_out()], judged(asked.seed or 1, SHARE, right_images(asked.seed or 1)[1])[3]
     print(f"{name}: {len(by_hand)} images by hand and {len(changes)} of {SHARE} changes answered wrongly")

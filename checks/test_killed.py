@@ -63,6 +63,6 @@ def test_self(asked):
 @pytest.mark.wrong
 @pytest.mark.parametrize("name", WRONG)
 def test_wrong(name, asked, monkeypatch):
-    with program_with(name, "harness", "files", ".", "1", "1") as program:
+    with program_with(name, "harness") as program:
         monkeypatch.setenv("HARNESS", program)
         assert bool(killed(asked.seed or 1, asked.count or 300)) == bool(WRONG[name])

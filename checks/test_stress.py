@@ -14,6 +14,7 @@ from programs import lines_of
 from stressing import calls, wrong_stores
 from stressing.counting import counted, lacks, told
 from stressing.judging import RULES, judged
+from stressing.reading import read_run
 from stressing.running import lines_in, printed
 from stressing.sample import sample
 from stressing.spoiling import KINDS, spoiled
@@ -52,9 +53,9 @@ def test_run(asked):
 def test_self(asked):
     """Spoiled runs of a plain store, and one of the program, are noticed; each kind is tried, and each rule notices something."""
     first, rules, alone = asked.seed or 1, Counter(), Counter()
-    runs = [(calls.lines_of(sample(seed)), seed) for seed in range(first, first + SAMPLES)] + [(printed(SHORT, first), first)]
-    for lines, seed in runs:
-        none(faults_of(lines, seed, 0, f"seed {seed}, of a plain store or of {SHORT} second of the program"))
+    runs = [*map(sample, range(first, first + SAMPLES)), read_run(printed(SHORT, first))]
+    for run in runs:
+        none(faults_of(calls.lines_of(run), run.seed, 0, f"seed {run.seed}, of a plain store or of {SHORT} second of the program"))
     all_noticed(spoiled(runs, rules, alone), len(KINDS))
     print(f"{len(rules)} rules noticed something, {len(alone)} of them alone")
     none(f"no spoiled run was noticed by: {rule}" for rule in RULES if not rules[rule])

@@ -103,12 +103,17 @@ def other_record(random, made):
     return field, made._replace(**{field: other(random, getattr(made, field))})
 
 
-def of_record(random, device, _):
-    """Another value in one field of a record."""
+def some_record(random, device):
+    """The batches, where one of them is, and where a record of it is."""
     batches, _ = batches_of(Rules(), device)
     at = random.randrange(len(batches))
+    return batches, at, random.randrange(len(batches[at][1]))
+
+
+def of_record(random, device, _):
+    """Another value in one field of a record."""
+    batches, at, which = some_record(random, device)
     version, records = batches[at]
-    which = random.randrange(len(records))
     field, made = other_record(random, records[which])
     batches[at] = version, [*records[:which], made, *records[which + 1 :]]
     return f"another {field} of a {type(made).__name__}", device_bytes(batches)
@@ -116,10 +121,8 @@ def of_record(random, device, _):
 
 def of_list(random, device, images):
     """A record left out, doubled, put elsewhere, or one of another node put in."""
-    batches, _ = batches_of(Rules(), device)
-    at = random.randrange(len(batches))
+    batches, at, which = some_record(random, device)
     version, records = batches[at]
-    which = random.randrange(len(records))
     kind = random.choice(("left out", "doubled", "put elsewhere", "of another node"))
     rest = records[:which] + records[which + 1 :]
     if kind == "left out":
@@ -139,36 +142,31 @@ def of_list(random, device, images):
 def a_stranger(random, images):
     """A record of some node."""
     image = random.choice(images)
-    batches, _ = batches_of(Rules(), getattr(image, random.choice(filled(image))))
-    return random.choice(random.choice(batches)[1])
+    batches, at, which = some_record(random, getattr(image, random.choice(filled(image))))
+    return batches[at][1][which]
 
 
 def of_batch(random, device, _):
-    batches, _ = batches_of(Rules(), device)
-    at = random.randrange(len(batches))
-    version, records = batches[at]
+    batches, at, _ = some_record(random, device)
     kind = random.choice(("left out", "doubled", "of another version", "joined"))
-    if kind == "left out":
-        del batches[at]
-    elif kind == "doubled":
-        batches.insert(at, batches[at])
-    elif kind == "of another version":
-        batches[at] = random.choice((0, 1, 2, 3)), records
-    else:
-        batches[at : at + 2] = [(2, [made for _, some in batches[at : at + 2] for made in some])]
-    return f"a batch {kind}", device_bytes(batches)
+    made = {
+        "left out": batches[at + 1 : at + 2],
+        "doubled": [batches[at], *batches[at : at + 2]],
+        "of another version": [(random.choice((0, 1, 2, 3)), batches[at][1]), *batches[at + 1 : at + 2]],
+        "joined": [(2, [made for _, some in batches[at : at + 2] for made in some])],
+    }[kind]
+    return f"a batch {kind}", device_bytes([*batches[:at], *made, *batches[at + 2 :]])
 
 
 def of_identity(random, image):
     """The bytes as they are, of another node, store or number of shards."""
     kind = random.choice(("node", "store", "number of shards"))
-    if kind == "node":
-        other = image._replace(node=random.choice([0xFF, *range(image.shards)]))
-    elif kind == "store":
-        other = image._replace(store=(image.store + random.choice((1, 2**32 - 1))) % 2**32)
-    else:
-        other = image._replace(shards=min(64, image.shards + 1))
-    return f"opened with another {kind}", other
+    other = {
+        "node": {"node": random.choice([0xFF, *range(image.shards)])},
+        "store": {"store": (image.store + random.choice((1, 2**32 - 1))) % 2**32},
+        "number of shards": {"shards": min(64, image.shards + 1)},
+    }[kind]
+    return f"opened with another {kind}", image._replace(**other)
 
 
 def of_banks(random, image):

@@ -6,8 +6,9 @@ from random import Random
 
 from imaging.changing import changed
 from imaging.format import GREATEST, Damaged, Rules
-from imaging.making import has_no_checkpoint, with_checkpoints
-from imaging.replaying import COORDINATOR, found, named_of, shard_of, tuple_text
+from imaging.making import has_no_checkpoint, leave, with_checkpoints
+from imaging.replaying import found, named_of
+from judge.definitions import home, tuple_text
 from judge.lines import token
 from programs import run, zanstore
 
@@ -35,24 +36,19 @@ def opened(image):
 
 def part_of(shard, made):
     """The changes and the conditions of a write that are a shard's."""
-    changes = [change for change in made.changes if shard_of(change[1], shard.shards) == shard.node]
-    return changes, [condition for condition in made.conditions if shard_of(condition[0], shard.shards) == shard.node]
+    changes = [change for change in made.changes if home(change.tuple, shard.shards) == shard.node]
+    return changes, [condition for condition in made.conditions if home(condition[0], shard.shards) == shard.node]
 
 
 def learned(coordinator, shard):
     """The versions of a shard that has learned all that is kept."""
     rows, doubt = list(shard.rows), dict(shard.in_doubt)
     for made in coordinator.log:
-        if made.place > shard.learned and any(shard_of(named, shard.shards) == shard.node for named in named_of(made)):
+        if made.place > shard.learned and any(home(named, shard.shards) == shard.node for named in named_of(made)):
             prepared = doubt.pop(made.id, None)
             must(prepared and part_of(shard, prepared) == part_of(shard, made))
             rows += [(named, made.place, is_touch) for is_touch, named in prepared.changes]
     return rows
-
-
-def order(named):
-    namespace, name, relation, user = named
-    return namespace, name, relation, user
 
 
 def answer(images):
@@ -67,18 +63,14 @@ def answer(images):
     newest = {}
     for named, place, is_touch in rows:
         newest[named] = max(newest.get(named, (0, False)), (place, is_touch))
-    there = [tuple_text(named) for named in sorted(newest, key=order) if newest[named][1]]
+    there = [tuple_text(named) for named in sorted(newest) if newest[named][1]]
     return 0, "".join(f"{line}\n" for line in [f"at {token(images[0].store, coordinator.end())}", *there]), ""
 
 
 def dumped(images):
     """The same of the program."""
     with tempfile.TemporaryDirectory(prefix="images-") as folder:
-        for image in images:
-            node = "c" if image.node == COORDINATOR else image.node
-            for bank in "ab":
-                with open(f"{folder}/{node}.{bank}", "wb") as it:
-                    it.write(getattr(image, bank))
+        leave(folder, images)
         status, out, err = run([zanstore(), "dump", "--dir", folder, "--store", images[0].store, "--shards", images[0].shards])
     # A second line tells which node is meant, or which store the files are of.
     first, *about = err.splitlines(keepends=True) or [""]

@@ -2,6 +2,8 @@
 import re
 from collections import Counter, namedtuple
 
+from judge.definitions import Change, Tuple
+
 GREATEST = 2**63 - 1
 MOST_BODY = 1 << 20
 OPEN, CLOSED = 0xA5, 0
@@ -11,7 +13,6 @@ NAME = re.compile(rb"[a-z0-9_]{1,64}")
 # The bytes from 21 to 7e hexadecimal but `#`, `+`, `:` and `@`.
 ID = re.compile(rb"[!\"$-*,-9;-?A-~]{1,128}")
 
-# A tuple is its namespace, id, relation and user; a user is (0, id), or (1, namespace, id, relation) of a userset.
 Prepare = namedtuple("Prepare", "id changes conditions")
 Learned = namedtuple("Learned", "place placed")
 Dropped = namedtuple("Dropped", "id")
@@ -84,12 +85,12 @@ class Bytes:
         return (0, self.text(ID)) if kind == 1 else (1, *self.object(), self.text(NAME))
 
     def tuple(self):
-        return (*self.object(), self.text(NAME), self.user())
+        return Tuple(*self.object(), self.text(NAME), self.user())
 
     def change(self):
         kind = self.number(1)
         self.must(kind in (1, 2), "a change is a touch or a delete")
-        return kind == 1, self.tuple()
+        return Change(kind == 1, self.tuple())
 
     def condition(self, version):
         named = self.tuple()

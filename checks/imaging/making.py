@@ -21,9 +21,11 @@ def few_shards(count):
     return [seed for seed in range(10 * count) if Maker(seed).shards <= 5][:count]
 
 
-def run(folder, maker, lines):
-    status, _, _ = ran(harness("files", folder, maker.store, maker.shards), lines_of(lines))
+def run(folder, store, shards, lines):
+    """What a life of the store over these files prints, line by line."""
+    status, out, _ = ran(harness("files", folder, store, shards), lines_of(lines))
     assert not status, f"harness ended with status {status}"
+    return out.splitlines()
 
 
 def real_images(seed):
@@ -33,9 +35,23 @@ def real_images(seed):
     lines = [line for line in maker.script() if not line.startswith(("restart", "fail"))][:MOST_LINES]
     with tempfile.TemporaryDirectory(prefix="images-") as folder:
         for life in range(LIVES):
-            run(folder, maker, lines[life * len(lines) // LIVES : (life + 1) * len(lines) // LIVES])
-        nodes = [("c", COORDINATOR), *((str(shard), shard) for shard in range(maker.shards))]
-        return [Image(node, maker.store, maker.shards, *(unstretched(read_file(f"{folder}/{name}.{bank}")) for bank in "ab")) for name, node in nodes]
+            run(folder, maker.store, maker.shards, lines[life * len(lines) // LIVES : (life + 1) * len(lines) // LIVES])
+        return images_of(folder, maker.store, maker.shards)
+
+
+def images_of(folder, store, shards):
+    """What the files of a store have, the coordinator's first."""
+    nodes = [("c", COORDINATOR), *((str(shard), shard) for shard in range(shards))]
+    return [Image(node, store, shards, *(unstretched(read_file(f"{folder}/{name}.{bank}")) for bank in "ab")) for name, node in nodes]
+
+
+def leave(folder, images):
+    """Has the folder keep a store whose nodes have these images."""
+    for image in images:
+        node = "c" if image.node == COORDINATOR else image.node
+        for bank in "ab":
+            with open(f"{folder}/{node}.{bank}", "wb") as it:
+                it.write(getattr(image, bank))
 
 
 def read_file(path):

@@ -1,20 +1,11 @@
 """What a node finds on its device, as docs/FORMAT.md says, and what the part `images` of `harness` has to print of it."""
 from imaging.format import ABSENT, CLOSED, EXISTS, GREATEST, MARKS, NOT_AFTER
 from imaging.format import Begins, Damaged, Decision, Dropped, Ends, Epoch, Horizon, Learned, Prepare, Row, Rules, appended, batch_bytes, batches_of
+from judge.definitions import Change, change_text, home
 
 COORDINATOR = 0xFF
 # How far a checkpoint is: what stands last in it.
 BEGUN, OPENED, RAISED, LEARNED, DOUBTED = range(5)
-
-
-def tuple_text(named):
-    namespace, name, relation, user = named
-    spelled = user[1] if user[0] == 0 else f"{user[1]}:{user[2]}#{user[3]}"
-    return f"{namespace}:{name}#{relation}@{spelled}"
-
-
-def shard_of(named, shards):
-    return sum(f"{named[0]}:{named[1]}".encode()) % shards
 
 
 def numbers_of(made):
@@ -126,7 +117,7 @@ class Shard(Node):
         self.must(self.is_inside(), "a row stands in a checkpoint")
         self.may_come(LEARNED)
         is_touch, named = made.change
-        self.must(shard_of(named, self.shards) == self.node, "a row is of a tuple of this shard")
+        self.must(home(named, self.shards) == self.node, "a row is of a tuple of this shard")
         self.must(1 <= made.place <= self.learned, "a row lies within what is learned")
         last = max((at for other, at, _ in self.rows if other == named), default=0)
         self.must(last <= made.place, "a row is no older than those of its tuple before it")
@@ -137,7 +128,7 @@ class Shard(Node):
         self.further(DOUBTED)
         self.must(made.id not in self.in_doubt, "a prepare has an id that is not in doubt")
         named = named_of(made)
-        self.must(all(shard_of(one, self.shards) == self.node for one in named), "a prepare has tuples of this shard")
+        self.must(all(home(one, self.shards) == self.node for one in named), "a prepare has tuples of this shard")
         self.must(not any(named & named_of(other) for other in self.in_doubt.values()), "a prepare has tuples that no write in doubt names")
         self.in_doubt[made.id] = made
 
@@ -164,7 +155,7 @@ class Shard(Node):
 
     def told(self):
         doubt = [f"undecided {epoch}.{number}" for epoch, number in sorted(self.in_doubt)]
-        rows = [f"{place} {'+' if is_touch else '-'}{tuple_text(named)}" for named, place, is_touch in sorted(self.rows, key=lambda row: row[:2])]
+        rows = [f"{place} {change_text(Change(is_touch, named))}" for named, place, is_touch in sorted(self.rows, key=lambda row: row[:2])]
         return [f"learned {self.learned}", *doubt, *rows]
 
 
@@ -212,7 +203,7 @@ class Coordinator(Node):
         lines = [f"kept {self.end()} horizon {self.horizon}"]
         for made in self.log[self.horizon - self.base :]:
             lines.append(f"commit {made.id[0]}.{made.id[1]} {made.place}")
-            lines += [f"{made.place} {'+' if is_touch else '-'}{tuple_text(named)}" for is_touch, named in made.changes]
+            lines += [f"{made.place} {change_text(change)}" for change in made.changes]
         return lines
 
 

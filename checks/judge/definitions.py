@@ -20,6 +20,12 @@ def change_text(change):
     return ("+" if change.is_touch else "-") + tuple_text(change.tuple)
 
 
+def condition_text(condition):
+    marks = {"exists": "?", "absent": "!"}
+    text = tuple_text(condition.tuple)
+    return marks[condition.want] + text if condition.want in marks else f"{text}={condition.want}"
+
+
 def shard_of(namespace, id, shards):
     return sum(f"{namespace}:{id}".encode()) % shards
 

@@ -2,7 +2,7 @@
 import random
 
 from judge import definitions
-from judge.definitions import Change, Condition, Tuple, change_text, tuple_text
+from judge.definitions import Change, Condition, Tuple, change_text, condition_text, tuple_text
 from judge.lines import token
 
 NAMESPACES = ("doc", "group")
@@ -22,11 +22,6 @@ class Made:
 
     def __init__(self, changes):
         self.changes = changes
-
-
-def condition_text(condition):
-    text = tuple_text(condition.tuple)
-    return f"{text}={condition.want}" if isinstance(condition.want, int) else {"exists": "?", "absent": "!"}[condition.want] + text
 
 
 class Maker:

@@ -8,7 +8,7 @@ import threading
 import time
 
 from . import sums
-from .kit import rt, rtlib
+from .kit import has_store, rt, rtlib
 from .lanes import Lanes, Task
 from .seconds import Seconds
 
@@ -23,7 +23,7 @@ class Building:
         self.count, self.ended = len([it for it in crates if it.makes_rlib()]), 0
 
     def is_current(self, crate):
-        return crate.is_built()
+        return os.path.isdir(crate.rlib) and rtlib.text_of(f"{crate.folder}/out/rlib/stamp") == crate.stamp()
 
     def say(self, text):
         with self.printing:
@@ -66,9 +66,10 @@ class Building:
 
 
 def prepared(root):
-    """The repository's crates. What another copy of the repository on this machine has built of the same text is taken from there."""
+    """The repository's crates. Where `rt` keeps anything, what another copy of the repository here has built of the same text is taken from there."""
     sums.install()
-    rt.share_work(True)
+    if has_store():
+        rt.share_work(True)
     rtlib.guarded()
     rtlib.help_of("check"), rtlib.help_of("build")
     crates = rtlib.crates_below(root)
@@ -97,4 +98,4 @@ def build(name, arguments, lanes):
     os.chdir(crate.folder)
     jobs = max(1, min(4, building.lanes.count, int(0.85 * rt.free() / rt.need(crate) / 0.6)))
     verb = ["run", "--jobs", str(jobs), "--", *arguments] if crate.is_program else ["lib", "--jobs", str(jobs)]
-    os.execvp("rt", ["rt", *verb])
+    return os.execvp("rt", ["rt", *verb]) if has_store() else rt.main(verb)

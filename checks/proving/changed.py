@@ -8,7 +8,7 @@ import copy
 import os
 import tempfile
 
-from . import batches, sums
+from . import batches, kit, sums
 from .building import Building, prepared
 from .gating import try_alone, try_together
 from .kit import rt, rtlib
@@ -96,7 +96,7 @@ class Changed:
             made, alone = batches.batches_of(crate, good)
             told = [it for batch in made for it in try_together(kept, batch)[0].values()]
             said = [*told, *[try_alone(kept, it) for it in alone]]
-        refused = [kind in (rt.REFUSED, rt.AT_LIMIT) for kind, _ in said]
+        refused = [kit.is_refused(kind) for kind, _ in said]
         for is_refused, (_, text) in zip(refused, said):
             if not is_refused:
                 self.building.say(text)

@@ -59,11 +59,12 @@ def name_of(crate, kept):
 
 
 def ran(crate, copy, kept):
-    name = name_of(crate, kept)
-    if kept.tried(name):
+    """Whether it is right, or was in an earlier run, where the toolchain keeps that."""
+    name = kept and name_of(crate, kept)
+    if kept and kept.tried(name):
         return True
     right = is_right(crate, copy)
-    if right and kept.is_untouched(crate):
+    if right and kept and kept.is_untouched(crate):
         kept.keep_tried(name, rt.REFUSED, "control")
     return right
 

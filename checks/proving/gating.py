@@ -1,6 +1,5 @@
-"""`rt ci` in another order, over the kept work of its own run: see docs/GATE.md."""
+"""`rt ci` in another order, over the kept work of its own run: see docs/GATE.md. `storeless` has what is other where the toolchain's `rt` keeps nothing."""
 
-import hashlib
 import math
 import os
 import re
@@ -9,7 +8,7 @@ import sys
 import tempfile
 import threading
 
-from . import batches, controls, formats, sums
+from . import batches, controls, formats, kit, sums
 from .broken import BROKEN
 from .kit import rt, rtlib
 from .lanes import Lanes, Meter, Task
@@ -24,33 +23,32 @@ JUDGES = ("kit.py", "batches.py", "wrong.py", "controls.py", "gating.py")
 SEEDING, SEEDS = {}, threading.Semaphore(max(1, rt.processors() // 2))
 
 
-def store():
-    """Where runs of this gate on this machine keep what they passed, beside what `rt ci` keeps, whose libraries are other files."""
-    made = hashlib.sha256()
-    for name in JUDGES:
-        with open(f"{os.path.dirname(os.path.realpath(__file__))}/{name}", "rb") as it:
-            made.update(it.read())
-    return f"{rt.STORE}/gate-{made.hexdigest()[:16]}"
-
-
 class Crate(rt.Crate):
     """A crate whose library is proved once, into a folder that this run begins empty."""
 
-    def kept(self):
+    def made(self):
+        """The folder of the work that this run keeps."""
         return f"{self.folder}/out/incremental"
+
+    def kept(self):
+        """The folder of the work that its tests and edits begin with."""
+        return self.made()
 
     def begin(self):
         """Makes sure that nothing is there that another run has kept. What a check that was killed has left is removed."""
-        if os.path.lexists(self.kept()):
+        if os.path.lexists(self.made()):
             if not getattr(self, "is_begun", False):
                 rtlib.stop(f"{self.name}: out/incremental stands before this run has proved anything")
-            shutil.rmtree(self.kept())
+            shutil.rmtree(self.made())
         self.is_begun = True
         shutil.rmtree(os.path.dirname(self.rlib), ignore_errors=True)
         os.makedirs(os.path.dirname(self.rlib))
 
+    def has_tests_apart(self, tests):
+        return tests and not self.is_program and not self.is_static
+
     def ci(self, flags, tests):
-        if tests and not self.is_program and not self.is_static and os.path.isdir(self.kept()):
+        if self.has_tests_apart(tests) and os.path.isdir(self.kept()):
             return self.prove_tests(flags)
         stamp = self.stamp()
         if tests or self.is_program or self.is_static:
@@ -60,12 +58,16 @@ class Crate(rt.Crate):
                 self.leave(f"{made}.stamp", stamp + rtlib.sum_of(made))
             return status
         self.begin()
-        words = [*self.words(flags, keeps=False), "--incremental", self.kept()]
+        words = [*self.words(flags, keeps=False), "--incremental", self.made()]
         status = self.prove(["build", *words, "-o", self.rlib])
         if not status and stamp == self.stamp():
             self.leave(f"{self.folder}/out/rlib/stamp", stamp)
-            rt.offer(self, stamp)
+            self.offer(stamp)
         return status
+
+    def offer(self, stamp):
+        """Lets other copies of the repository on this machine take what was proved."""
+        rt.offer(self, stamp)
 
     def prove_tests(self, flags):
         """Proves and links the tests, over a copy of what the crate's own proof left."""
@@ -84,8 +86,9 @@ class Crate(rt.Crate):
 
 
 def base_of(crate):
-    """The folder of what this run's own check of the crate left. Where an earlier run's proof was taken, the crate is checked once more for it."""
-    if os.path.isdir(crate.kept()):
+    """The folder of what this run's own check of the crate left. Where an earlier run's proof was taken, the crate is checked once more for it, since rt's store
+    has no such folder."""
+    if os.path.isdir(crate.kept()) or not kit.has_store():
         return crate.kept()
     with SEEDING.setdefault(crate.name, threading.Lock()):
         if not hasattr(crate, "seed"):
@@ -122,8 +125,8 @@ def is_proved(crate):
 def try_alone(crate, edit):
     """What rt says of the edit over a copy of the kept work, and, where that settles nothing, over nothing."""
     with Copy(crate) as kept:
-        first = rt.must_fail(crate, edit, ONE_JOB, kept) if kept else (rt.UNSURE, "")
-    return first if first[0] in rt.SETTLED else rt.must_fail(crate, edit, ONE_JOB)
+        first = kept and rt.must_fail(crate, edit, ONE_JOB, kept)
+    return first if first and kit.is_settled(*first[:2]) else rt.must_fail(crate, edit, ONE_JOB)
 
 
 def try_together(crate, batch):
@@ -134,7 +137,7 @@ def try_together(crate, batch):
     said = {}
     for edit, why in told.items():
         label = f"must-fail {crate.name}/{os.path.basename(edit)}"
-        said[edit] = (rt.REFUSED, f"{label}: refused, as it must be: {why}") if why else try_alone(crate, edit)
+        said[edit] = (kit.REFUSED, f"{label}: refused, as it must be: {why}") if why else try_alone(crate, edit)
     return said, is_enough
 
 
@@ -146,10 +149,11 @@ def stat_of(file):
 class Edits:
     """The tasks of one crate's edits, and what earlier runs on this machine found of them."""
 
-    def __init__(self, crate, edits, is_well, kept, seconds):
+    def __init__(self, crate, edits, seconds, is_well=None, kept=None):
         self.crate, self.name, self.edits, self.is_well, self.kept = crate, crate.name, edits, is_well, kept
-        self.weight = seconds.of(self.name, "edits", 5.0 * len(edits))
+        self.weight, self.parts, self.memory = seconds.of(self.name, "edits", 5.0 * len(edits)), len(edits) + 1, rt.need(crate)
         self.stats, self.keys, self.looking, self.found = {it: stat_of(it) for it in edits}, [], threading.Lock(), None
+        self.sound, self.last = (self.name, "edits none"), (self.name, "edits gathered")
 
     def most(self):
         """How many edits a batch has at most: where they take long, lanes that have nothing else to do share them."""
@@ -172,14 +176,15 @@ class Edits:
         if not given[self.name, "proof"]:
             return {}, False
         left = self.left(edits)
-        self.is_well({(self.name, "proof"): True, (self.name, "tests"): True}, len(self.left(self.edits)))
+        if self.is_well:
+            self.is_well({(self.name, "proof"): True, (self.name, "tests"): True}, len(self.left(self.edits)))
         return call(left) if left else ({}, False)
 
     def add(self, tasks, label, edits, call):
         """Adds a task that stands on the crate's proof."""
-        key, share = (self.name, f"edits {label}"), (len(edits) or 1) / (len(self.edits) + 1)
+        key, share = (self.name, f"edits {label}"), (len(edits) or 1) / self.parts
         run = lambda given, jobs: self.run(edits, given, call)
-        tasks[key] = Task([(self.name, "proof")], self.weight * share, rt.need(self.crate), 1, run)
+        tasks[key] = Task([(self.name, "proof")], self.weight * share, self.memory, 1, run)
         self.keys.append(key)
 
     def whole(self, given, jobs):
@@ -199,17 +204,20 @@ class Edits:
         self.batches = [*self.keys]
         for edit in alone:
             self.add(tasks, os.path.basename(edit), [edit], lambda left: ({it: try_alone(self.crate, it) for it in left}, False))
-        self.sound, self.last = (self.name, "edits none"), (self.name, "edits gathered")
-        weight = self.weight / (len(self.edits) + 1) * (not made)
-        tasks[self.sound] = Task([(self.name, "proof"), *self.batches], weight, rt.need(self.crate), 1, self.whole)
+        weight = self.weight / self.parts * bool(self.edits and not made)
+        tasks[self.sound] = Task([(self.name, "proof"), *self.batches], weight, self.memory, 1, self.whole)
         tasks[self.last] = Task([*self.keys, self.sound], 0, 0, 1, self.gathered)
+
+    def tried(self, given):
+        """What the edits came to that this run tried, by their files."""
+        return {edit: it for key in self.keys for edit, it in (given[key] or ({},))[0].items()}
 
     def gathered(self, given, jobs):
         """What each edit came to, in their order. Where the crate itself is not proved over the kept work, each is tried from nothing.
         What is settled is kept, where no file that it stands on was touched since the run began."""
         if not given[self.name, "proof"]:
             return []
-        tried = {edit: it for key in self.keys for edit, it in (given[key] or ({},))[0].items()}
+        tried = self.tried(given)
         if not given[self.sound]:
             tried = {edit: rt.must_fail(self.crate, edit, ONE_JOB) for edit in tried}
         for edit, (kind, text) in tried.items():
@@ -224,14 +232,14 @@ class Edits:
 class Gate:
     def __init__(self, lanes, anew=False):
         self.lanes, self.meter, self.seconds, self.anew = Lanes(lanes), Meter("out/gate/commands.tsv"), Seconds(), anew
-        self.crates, self.kept, self.of_edits = [], None, []
+        self.crates, self.given, self.kept, self.of_edits = [], {}, None, []
 
     def add_edits(self, tasks, crate, edits, first, waits, is_well, kept, start=None, in_ci=True):
         """In the place of rt's own, which tries one edit after another over a second check of the crate."""
         self.kept = kept
         if not edits or crate.is_program:
             return self.plain_edits(tasks, crate, edits, first, waits, is_well, kept, start, in_ci)
-        made = Edits(crate, edits, is_well, kept, self.seconds)
+        made = Edits(crate, edits, self.seconds, is_well, kept)
         made.put(tasks)
         self.of_edits.append(made)
         return made.results, made.known
@@ -245,21 +253,33 @@ class Gate:
         weight = self.seconds.of(name, kind, lines * (0.25 if kind == "proof" else 0.1)) if len(key) == 2 else lines * 0.1
         return Task(waits, weight if lines else 0, needs, 4, call)
 
+    def tasks_of(self, plain):
+        """rt's own tasks, as far as they are none of ours yet, and the control of the batches."""
+        return {**{key: self.task_of(key, task) for key, task in plain.items()}, **controls.tasks(self.crates, Copy, self.kept)}
+
     def in_lanes(self, plain):
         self.crates = rtlib.crates_below(os.getcwd())
         formats.stop_on_wrong(self.crates)
-        tasks = {key: self.task_of(key, task) for key, task in plain.items()}
-        tasks.update(controls.tasks(self.crates, Copy, self.kept))
+        self.given = self.run(self.tasks_of(plain))
+        return self.given
+
+    def run(self, tasks):
         with rt.ending():
-            self.given = self.lanes.run(tasks)
-            return self.given
+            return self.lanes.run(tasks)
 
     def bad(self):
         """How many edits could not be applied or read: they show nothing, so this gate fails on them."""
         return sum(kind == rt.BAD for it in self.of_edits for kind, _ in it.results(self.given))
 
+    def ci(self):
+        """rt's ci with its order, its store, beside what `rt ci` itself keeps, whose libraries are other files, and the crates and edits of this gate."""
+        self.plain_edits = rt.add_edits
+        rt.STORE = f"{rt.STORE}/gate-{kit.sum_of_scripts(JUDGES)}"
+        rt.Crate, rt.in_lanes, rt.add_edits = Crate, self.in_lanes, self.add_edits
+        return rt.where_disk_lasts(rt.ci, self.anew)
+
     def ran(self):
-        """The whole run: rt's ci with its crates, its order, its store and its judge of the last line."""
+        """The whole run, with rt's judge of the last line."""
         word = r"statements=trusted\n"
         trusted = r"statements=trusted( incremental=trusted)?\n"
         if word not in rtlib.VERDICT.pattern:
@@ -268,13 +288,10 @@ class Gate:
         rtlib.VERDICT = re.compile(rtlib.VERDICT.pattern.replace(word, trusted), re.M)
         sums.install()
         self.meter.install(rtlib)
-        self.plain_edits = rt.add_edits
-        rt.STORE = store()
-        rt.Crate, rt.in_lanes, rt.add_edits = Crate, self.in_lanes, self.add_edits
         give_back = rt.put_back
         # what this run proved is newer than what earlier ones kept
         rt.put_back = lambda root, aside, was_killed=False: give_back(root, aside, True)
-        status = rt.where_disk_lasts(rt.ci, self.anew)
+        status = self.ci()
         self.seconds.write(self.lanes.took, self.meter.rows())
         BROKEN.write()
         return status or controls.failed(self.given) or int(self.bad() > 0 or bool(self.lanes.broken))

@@ -56,24 +56,14 @@ class Memory:
         return min(reckoned, (1 + SPARE) * known) if known else reckoned
 
 
-def lines_of(folder, ending):
-    """How many lines the files of the folder have."""
+def marked(folder, mark, ending=""):
+    """How often the mark stands in the files of the folder with this ending."""
     found = 0
     for at, _, names in os.walk(folder):
         for name in names:
             if name.endswith(ending):
                 with open(f"{at}/{name}", "rb") as it:
-                    found += it.read().count(b"\n")
-    return found
-
-
-def marked(folder, mark):
-    """How often the mark stands in the sources of the folder."""
-    found = 0
-    for at, _, names in os.walk(folder):
-        for name in names:
-            with open(f"{at}/{name}", "rb") as it:
-                found += it.read().count(mark)
+                    found += it.read().count(mark)
     return found
 
 
@@ -81,7 +71,7 @@ def row_of(name, sums):
     """A crate's numbers: lines of code, definitions and proofs, tests, edits, and minutes by kind and together."""
     folder = f"crates/{name}"
     edits = f"{folder}/must-fail"
-    counts = [lines_of(f"{folder}/src", ".rt"), lines_of(f"{folder}/specs", ".antt"), lines_of(f"{folder}/proofs", ".antt")]
+    counts = [marked(f"{folder}/{part}", b"\n", ending) for part, ending in (("src", ".rt"), ("specs", ".antt"), ("proofs", ".antt"))]
     counts += [marked(f"{folder}/src", b"#[test]"), len(os.listdir(edits)) if os.path.isdir(edits) else 0]
     minutes = [sums.get((name, kind), 0.0) / 60 for kind in KINDS]
     return counts, [*minutes, sum(minutes)]

@@ -122,24 +122,24 @@ def test_full_disk(folder):
         is_told(session, write("+doc:more#viewer@ann"), {"zookie": token(len(found) + 1)})
 
 
-def fills_shard(session):
-    """Writes to shard 0 until its file is full; the tuples that were told."""
+def fills_shard(session, most, user):
+    """Writes to shard 0 until its file is full, at most so many; the tuples that were told. The names of their users end with a number."""
     told = []
-    for number in range(1, COUNT + 1):
-        tuple = f"doc:a#viewer@u{number:03}"
+    for number in range(1, most + 1):
+        tuple = f"doc:a#viewer@{user}{number:04}"
         answer = session.ask(write("+" + tuple))
         if answer != {"zookie": token(number)}:
             must(answer == refusal(13, "Down"), f"answers {answer} to write {number}")
             break
         told.append(tuple)
-    must(10 <= len(told) < COUNT, f"{len(told)} writes were told before one was refused")
+    must(10 <= len(told) < most, f"{len(told)} writes were told before one was refused")
     return told
 
 
 def needs_shard(session):
     """What needs shard 0, be it with another shard, is refused."""
     both = write("+doc:b#viewer@both", "+doc:a#viewer@both")
-    for asked in (read("doc:a"), read("doc@u001"), check("doc:a#viewer@u001", exact=token(1)), write("-doc:a#viewer@u001"), both):
+    for asked in (read("doc:a"), read("doc@u0001"), check("doc:a#viewer@u0001", exact=token(1)), write("-doc:a#viewer@u0001"), both):
         is_told(session, asked, refusal(13, "Down"))
 
 
@@ -158,7 +158,7 @@ def goes_on_beside(session, place):
 def test_full_shard(folder):
     """a shard's file that gets no longer: that shard alone is refused with `13 Down` and told of, once, and a start with room finds what was told"""
     with Server(folder, longest=4000) as server, Session(server.port) as session, Session(server.port) as other:
-        told = fills_shard(session)
+        told = fills_shard(session, COUNT, "u")
         needs_shard(session)
         more = goes_on_beside(other, len(told))
         needs_shard(other)
@@ -175,16 +175,8 @@ def test_full_shard(folder):
 def test_limited_files(folder):
     """a limit on the size of files, whose signal is not ignored: no file gets past it, the write that would is refused with `13 Down`, the server goes on and
     answers, and a start without the limit finds what was told"""
-    told = []
     with Server(folder, longest=LONGEST) as server, Session(server.port) as session:
-        answer = {}
-        while "error" not in answer:
-            tuple = f"doc:a#viewer@{'u' * 100}{len(told):04}"
-            answer = session.ask(write("+" + tuple))
-            if "error" not in answer:
-                told.append(tuple)
-                must(answer == {"zookie": token(len(told))}, f"answers {answer} to write {len(told)}")
-        must(answer == refusal(13, "Down"), f"answers {answer} to write {len(told) + 1}")
+        told = fills_shard(session, LONGEST, 100 * "u")
         longest = max(os.path.getsize(os.path.join(folder, name)) for name in os.listdir(folder))
         must(longest == LONGEST, f"a file of {longest} bytes is full")
         more = goes_on_beside(session, len(told))

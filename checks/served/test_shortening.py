@@ -105,9 +105,13 @@ def test_shortened(folder):
         second.kill()
 
 
-def many_tuples(place):
-    """Those that `grow` writes at this place; no other write has them."""
-    return [f"doc:{NAME}#{'r' * 64}@{place:06}.{number:02}{'u' * 100}" for number in range(MANY)]
+def many_tuples(place, name=NAME):
+    """As many of an object as a write may have, which no write at another place has."""
+    return [f"doc:{name}#{'r' * 64}@{place:06}.{number:02}{'u' * 100}" for number in range(MANY)]
+
+
+def touch_many(session, place, name=NAME):
+    is_told(session, write(*("+" + tuple for tuple in many_tuples(place, name))), {"zookie": token(place)})
 
 
 def grow(session, folder):
@@ -115,7 +119,7 @@ def grow(session, folder):
     place = 0
     while min(lengths(folder, "a")) <= LIMIT + STRETCH:
         place += 1
-        is_told(session, write(*("+" + tuple for tuple in many_tuples(place))), {"zookie": token(place)})
+        touch_many(session, place)
     must(place < ROUND, f"a round of cares may have come at place {place}")
     return place
 
@@ -139,8 +143,7 @@ def test_not_again(folder):
         while not begins_checkpoint(banks(folder, "b")[0]):
             must(place < 4 * ROUND, f"no checkpoint by place {place}")
             place += 1
-            changes = (f"+doc:{NAME}#{'r' * 64}@{place:06}.{number:02}{'u' * 100}" for number in range(MANY))
-            is_told(session, write(*changes), {"zookie": token(place)})
+            touch_many(session, place)
             time.sleep(QUIET if place % ROUND == 0 else 0)
         first.kill()
     left = [os.path.getsize(bank) for bank in (banks(folder, "a")[0], banks(folder, "b")[0])]
@@ -185,8 +188,7 @@ def writes_beside(session, place):
     must(shard_of("doc", OTHER, SHARDS) != shard_of("doc", NAME, SHARDS), f"{OTHER} is of the same shard")
     for place in range(place + 1, place + 1 + WRITES):
         time.sleep(MOMENT)
-        changes = (f"+doc:{OTHER}#{'r' * 64}@{place:06}.{number:02}{'u' * 100}" for number in range(MANY))
-        is_told(session, write(*changes), {"zookie": token(place)})
+        touch_many(session, place, OTHER)
     return place
 
 
@@ -218,7 +220,7 @@ def test_put_off(folder):
         while not begins_checkpoint(banks(store, "b")[0]):
             must(time.monotonic() < late, f"no checkpoint {LATE} seconds after there was room")
             place += 1
-            is_told(session, write(*("+" + tuple for tuple in many_tuples(place))), {"zookie": token(place)})
+            touch_many(session, place)
             rows.extend(many_tuples(place))
             calls_round(session)
         rows.sort()

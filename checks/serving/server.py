@@ -75,7 +75,7 @@ def is_start(text, folder, shards, horizon, latest):
     text = without_progress(text)
     places = f"places {horizon} to {latest}" if latest else "a new store"
     wanted = re.escape(f"zanstore: {folder}: {shards} shards, {places}, opened in ")
-    return re.fullmatch(wanted + rf"[0-9]+\.[0-9]{{3}} s from [0-9]+ bytes of {2 * (shards + 1)} files\n", untimed(text)) is not None
+    return re.fullmatch(wanted + rf"[0-9]+\.[0-9]{{3}} s from [0-9]+ bytes of {2 * (shards + 1)} files; answers up to [0-9]+ MiB, window up to [0-9]+ places or [0-9]+ MiB\n", untimed(text)) is not None
 
 
 def is_listening(line, port):

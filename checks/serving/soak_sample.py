@@ -1,75 +1,73 @@
-"""A run of a plain store that is killed now and then, as its callers would record it."""
-from random import Random
+"""A run of a plain store that is killed now and then, as the callers of its server would record it."""
+from judge.definitions import Condition, snapshot
+from stressing.askers import Asker
+from stressing.calls import UNANSWERED, Call, Caller, Dump, Restart, Run, Write
+from stressing.plain_store import SHARDS
+from stressing.sample import Sample
 
-from serving.soak_judge import Ask, Dump, Read, Run, Watch, there_at
+CALLERS = (*["writer"] * 6, *["reader"] * 3, "watcher")
+# How often the server is killed in so many steps.
+KILLS, STEPS = 5, 3000
 
-LIVES, STEPS = 5, 40
+
+class Client(Asker):
+    """Half of its writes have the condition that their own tuple is absent; these are sent again where it is unknown whether they were made."""
+
+    again = None
+
+    def fresh(self):
+        kind, place = super().fresh()
+        return kind, None if place is None else min(place, self.place)
+
+    def condition(self):
+        return super().condition()._replace(want=self.random.choice(("exists", "absent")))
+
+    def write(self):
+        made, self.again = self.again or super().write(), None
+        is_once = made.conditions[:1] == (own_of(made),) or self.random.random() < 0.5
+        return made._replace(conditions=(own_of(made), *made.conditions[1:])) if is_once else made
+
+    def told(self, call):
+        super().told(call)
+        if isinstance(call.asked, Write) and call.code in (10, UNANSWERED) and call.asked.conditions[:1] == (own_of(call.asked),):
+            self.again = call.asked
 
 
-class Plain:
+def own_of(write):
+    return Condition(write.changes[0].tuple, "absent")
+
+
+class Killed(Sample):
+    kinds, asker = CALLERS, Client
+
     def __init__(self, seed):
-        self.random, self.log, self.life = Random(seed), [], 0
-        self.asks, self.reads, self.watches, self.dumps, self.again, self.number = [], [], [], [], [], 0
+        super().__init__(seed)
+        self.restarts, self.dumps = [], []
 
-    def changes(self):
-        self.number += 1
-        made = [f"+doc:w.{self.number}#viewer@u"]
-        if self.random.random() < 0.6:
-            made.append(f"+pad:w.{self.number}#viewer@u")
-        if self.random.random() < 0.4:
-            made.append(f"{self.random.choice('+-')}team:s{self.random.randrange(3)}#viewer@u")
-        return tuple(made)
+    def now(self, asked, place=None, found=None):
+        """A call that nothing lies beside."""
+        return Call(self.next_tick(), self.next_tick(), asked, None, place, found)
 
-    def write(self, is_killed=False):
-        changes = self.again.pop() if self.again else self.changes()
-        before, stands = len(self.log), any(changes == one for one in self.log)
-        answer = ("refused", 9) if stands else ("refused", self.random.choice((10, 11, 12, 12))) if self.random.random() < 0.15 else ("told", before + 1)
-        if is_killed and not stands:
-            answer = ("open",)
-        if answer[0] == "told" or answer in (("open",), ("refused", 12)) and self.random.random() < 0.5:
-            self.log.append(changes)
-        self.asks.append(Ask(self.life, changes, True, before, answer))
-        if answer in (("open",), ("refused", 12)) and self.random.random() < 0.6:
-            self.again.append(changes)
+    def kill(self):
+        """What is on its way gets no answer, and a write among it is made or not. Then the files are dumped, and the server is started again."""
+        for number, (begin, asked, told) in self.calls.items():
+            if isinstance(asked, Write):
+                if not told and self.random.random() < 0.5:
+                    self.act(number, asked)
+                self.askers[number].told(Call(begin, self.next_tick(), asked, UNANSWERED, None, None))
+        self.calls, self.store.running = {}, {}
+        log = self.store.log
+        self.dumps.append(self.now(Dump(), len(log), tuple(sorted(snapshot(log, len(log))))))
+        self.restarts.append(self.now(Restart("c")))
 
-    def read(self):
-        kind, asked = self.random.choice(("latest", "least", "exact")), self.random.randint(0, len(self.log))
-        self.reads.append(self.read_at(kind, asked, asked if kind == "exact" else len(self.log), self.sets()))
-
-    def sets(self):
-        return tuple(self.random.choice((f"doc:w.{self.random.randint(1, self.number + 1)}", f"team:s{self.random.randrange(3)}")) for _ in range(2))
-
-    def read_at(self, kind, asked, place, sets):
-        there = there_at(self.log, place)
-        rows = tuple(tuple(one for one in there if one.startswith(name + "#")) for name in sets)
-        return Read(kind, asked, len(self.log), sets, place, rows)
-
-    def watch(self):
-        start = self.watches[-1].place if self.watches else 0
-        self.watches.append(watched(self.log, start, self.random.choice((1, 5, 256)), len(self.log)))
-
-    def live(self):
-        self.life += 1
-        for _ in range(STEPS):
-            self.random.choice((self.write, self.write, self.read, self.watch))()
-        for _ in range(3):
-            self.write(is_killed=True)
-        self.dumps.append(Dump(len(self.log), len(self.log), there_at(self.log, len(self.log))))
-
-
-def watched(log, start, limit, before):
-    end = min(len(log), start + limit)
-    return Watch(start, limit, before, end, [(place, change) for place in range(start + 1, end + 1) for change in log[place - 1]])
-
-
-def whole(log, limit=50):
-    """How the whole list is read by watches."""
-    found = [watched(log, start, limit, 0) for start in range(0, len(log), limit)]
-    return [*found, watched(log, len(log), limit, 0)]
+    def run(self, steps):
+        for at in range(1, steps + 1):
+            self.step(self.random.choice(self.askers))
+            if at % (steps // KILLS) == 0:
+                self.kill()
+        calls = [*((asker.kind, asker.calls) for asker in self.askers), ("trouble", self.restarts), ("dump", self.dumps), ("end", self.end())]
+        return Run(self.seed, SHARDS, [Caller(number, *one) for number, one in enumerate(calls)])
 
 
 def sample(seed):
-    plain = Plain(seed)
-    for _ in range(LIVES):
-        plain.live()
-    return Run(plain.asks, plain.reads, plain.watches, whole(plain.log), whole(plain.log), plain.dumps)
+    return Killed(seed).run(STEPS)

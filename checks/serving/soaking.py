@@ -1,14 +1,18 @@
 """A server over files that is killed at random moments, and its callers: what each of them was told, as a `Run`."""
+import itertools
 import threading
 import time
 from random import Random
 
+from judge.definitions import Change, Condition
 from judge.lines import read_token
 from judge.worlds import Wrong, must
 from serving import wire
 from serving.server import SHARDS, STORE, Server, run
-from serving.soak_judge import UNSURE, Ask, Dump, Read, Run, Watch
 from serving.wire import Gone, Session, place_of, token
+from stressing.answering import PRECONDITION, UNSURE
+from stressing.calls import UNANSWERED, Call, Caller, Dump, Read, Restart, Run, Watch, Write
+from stressing.reading import tuple_of
 
 WRITERS, READERS = 8, 3
 NAMESPACES = ("doc", "pad", "team")
@@ -21,18 +25,22 @@ FREE = 30
 class Lives:
     """Which server there is, and what all callers know together."""
 
-    def __init__(self, folder, random, power=None):
-        self.folder, self.random, self.power, self.server = folder, random, power, None
+    def __init__(self, folder, seed, power=None):
+        self.folder, self.seed, self.power, self.server = folder, seed, power, None
+        self.random = Random(f"{seed} kills")
         self.life = self.killed = self.openings = 0
         self.stopped, self.change = False, threading.Condition()
-        self.greatest, self.given, self.names, self.faults, self.writes = 0, [0], [], [], 0
-        self.dumps = []
+        self.given, self.names, self.faults, self.writes = [0], [], [], 0
+        # What a caller drew before another one was drawn before it; and of each life the one behind its end.
+        self.tick, self.ends = itertools.count(1).__next__, {}
+        self.dumps, self.restarts = [], []
 
     def started(self, waits):
         return Server(self.folder, waits, self.power and self.power.environment(), workers=WRITERS + READERS + 2)
 
     def start(self):
-        server = self.started(True)
+        begin, server = self.tick(), self.started(True)
+        self.restarts.append(Call(begin, self.tick(), Restart("c"), None, None, None))
         with self.change:
             self.server, self.life = server, self.life + 1
             self.change.notify_all()
@@ -41,24 +49,25 @@ class Lives:
         if not self.server.goes_on():
             raise Wrong(f"the server has ended, and nobody killed it: {self.server.ended()}")
         self.killed = self.life
-        self.ends(self.server)
+        self.end(self.server)
+        self.ends[self.life] = self.tick()
 
-    def ends(self, server):
+    def end(self, server):
         server.kill()
         if self.power:
             self.power.fails()
 
     def dump(self):
         """What the program prints of the files."""
-        status, out, err = run("dump", "--dir", self.folder, "--store", str(STORE), "--shards", str(SHARDS))
+        begin, (status, out, err) = self.tick(), run("dump", "--dir", self.folder, "--store", str(STORE), "--shards", str(SHARDS))
         first, *rows = out.splitlines() or [""]
         must(status == 0 and first.startswith("at ") and not err, f"a dump ends with status {status}, {first[:80]} and {err[:200]}")
-        self.dumps.append(Dump(self.greatest, read_token(first[3:], STORE), rows))
+        self.dumps.append(Call(begin, self.tick(), Dump(), None, read_token(first[3:], STORE), tuple(map(tuple_of, rows))))
 
     def kill_opening(self, longest):
         server = self.started(False)
         time.sleep(self.random.uniform(0, longest))
-        self.ends(server)
+        self.end(server)
         self.openings += 1
 
     def connected(self, behind):
@@ -81,7 +90,6 @@ class Lives:
 
     def told(self, place, *names):
         with self.change:
-            self.greatest = max(self.greatest, place)
             if len(self.given) < 20000:
                 self.given.append(place)
             self.names += names
@@ -107,7 +115,13 @@ class Lives:
             self.was_killed(life, gone)
 
 
+def change_of(text):
+    return Change(text[0] == "+", tuple_of(text[1:]))
+
+
 class Writer:
+    """`found` has its calls; one that got no answer has its life in the place of its end."""
+
     def __init__(self, lives, random, name):
         self.lives, self.random, self.name = lives, random, name
         self.number, self.again, self.mine, self.found = 0, None, [], []
@@ -128,23 +142,27 @@ class Writer:
 
     def ask(self, session, life):
         changes, is_once = self.next()
-        before, answer, gone = self.lives.greatest, ("open",), None
+        code, place, end, gone = UNANSWERED, None, life, None
         conditions = [{"tuple": changes[0][1:], "want": "absent"}] * is_once
+        begin = self.lives.tick()
         try:
             told = session.ask(wire.write(*changes, conditions=conditions))
-            answer = ("refused", told["error"]) if "error" in told else ("told", place_of(told))
+            code, place, end = told.get("error"), None if "error" in told else place_of(told), self.lives.tick()
         except Gone as ended:
             gone = ended
-        self.found.append(Ask(life, changes, is_once, before, answer))
-        is_known = answer[0] == "told" or answer == ("refused", 9)
-        self.again = None if is_known or not is_once else (changes, is_once)
-        if answer[0] == "told":
+        made = Write(tuple(map(change_of, changes)), tuple(Condition(tuple_of(one["tuple"]), one["want"]) for one in conditions))
+        self.found.append(Call(begin, end, made, code, place, None))
+        self.again = (changes, is_once) if is_once and code not in (None, PRECONDITION) else None
+        if not code:
             self.mine += [change[1:] for change in changes if change[:2] in ("+d", "+p")]
-            self.lives.told(answer[1], *(change[1:].split("#")[0] for change in changes))
+            self.lives.told(place, *(change[1:].split("#")[0] for change in changes))
         if gone:
             raise gone
-        if answer[0] == "refused":
+        if code:
             time.sleep(0.01)
+
+    def calls(self):
+        return [call._replace(end=self.lives.ends[call.end]) if call.code == UNANSWERED else call for call in self.found]
 
 
 class Reader:
@@ -157,18 +175,20 @@ class Reader:
             return
         kind = self.random.choice(("latest", "least", "exact"))
         sets = [self.random.choice(self.lives.names) for _ in range(self.random.randint(1, 3))]
-        self.found.append(read(self.lives, session, kind, self.random.choice(self.lives.given), sets))
+        self.found += read(self.lives, session, kind, self.random.choice(self.lives.given), sets)
         time.sleep(0.002)
 
 
 def read(lives, session, kind, place, sets):
-    before, fresh = lives.greatest, {"latest": {}, "least": {"at_least": token(place)}, "exact": {"exact": token(place)}}[kind]
+    """A call for each set."""
+    begin, fresh = lives.tick(), {"latest": {}, "least": {"at_least": token(place)}, "exact": {"exact": token(place)}}[kind]
     told = session.ask(wire.read(*sets, **fresh))
-    must("sets" in told, f"answers {told} to a read of {sets}, {kind} {place}")
-    at = place_of(told)
+    must(len(told.get("sets", ())) == len(sets), f"answers {told} to a read of {sets}, {kind} {place}")
+    at, end = place_of(told), lives.tick()
     if kind != "exact":
         lives.told(at)
-    return Read(kind, place, before, tuple(sets), at, tuple(map(tuple, told["sets"])))
+    asked = [Read((kind, None if kind == "latest" else place), name) for name in sets]
+    return [Call(begin, end, one, None, at, tuple(map(tuple_of, rows))) for one, rows in zip(asked, told["sets"])]
 
 
 class Watcher:
@@ -176,26 +196,25 @@ class Watcher:
         self.lives, self.random, self.at, self.found = lives, random, 0, []
 
     def ask(self, session, life):
-        limit, before = self.random.choice((1, 10, 256)), self.lives.greatest
-        found = watch(session, self.at, limit, before)
-        self.found.append(found)
-        self.at = found.place
-        self.lives.told(found.place)
-        if not found.events:
+        call = watch(self.lives, session, self.at, self.random.choice((1, 10, 256)))
+        self.found.append(call)
+        self.at = call.place
+        self.lives.told(call.place)
+        if not call.found:
             time.sleep(0.005)
 
 
-def watch(session, start, limit, before):
-    told = session.ask(wire.watch(token(start), *NAMESPACES, limit=limit))
+def watch(lives, session, start, limit):
+    begin, told = lives.tick(), session.ask(wire.watch(token(start), *NAMESPACES, limit=limit))
     must("events" in told, f"answers {told} to a watch from {start}")
-    events = [(event["place"], ("+" if event["change"] == "touch" else "-") + event["tuple"]) for event in told["events"]]
-    return Watch(start, limit, before, place_of(told), events)
+    events = tuple((event["place"], Change(event["change"] == "touch", tuple_of(event["tuple"]))) for event in told["events"])
+    return Call(begin, lives.tick(), Watch(start, limit, NAMESPACES), None, place_of(told), events)
 
 
-def whole_list(session):
-    found = [watch(session, 0, 256, 0)]
-    while found[-1].place != found[-1].start:
-        found.append(watch(session, found[-1].place, 256, 0))
+def whole_list(lives, session):
+    found = [watch(lives, session, 0, 256)]
+    while found[-1].place != found[-1].asked.start:
+        found.append(watch(lives, session, found[-1].place, 256))
     return found
 
 
@@ -229,11 +248,11 @@ def frees(lives):
     writer, late = Writer(lives, lives.random, "last"), time.monotonic() + FREE
     changes = ("+doc:last#viewer@u", *(f"+team:s{number}#viewer@u" for number in range(SHARED)))
     with Session(lives.server.port) as session:
-        while not writer.found or writer.found[-1].answer[0] != "told":
+        while not writer.found or writer.found[-1].code:
             writer.again = (changes, True)
             must(time.monotonic() < late, f"a write is answered {writer.found[-1:]} for {FREE} seconds behind the last kill")
             writer.ask(session, lives.life)
-            must(writer.found[-1].answer not in (("refused", 9), ("refused", UNSURE)), f"a last write is answered {writer.found[-1].answer}")
+            must(writer.found[-1].code not in (PRECONDITION, UNSURE), f"a last write is answered {writer.found[-1]}")
     return writer.found
 
 
@@ -245,7 +264,7 @@ def again(lives):
 
 def soaked(folder, seconds, seed, power=None):
     """The run, and how many kills and killed openings there were. Raises `Wrong`."""
-    lives = Lives(folder, Random(f"{seed} kills"), power)
+    lives = Lives(folder, seed, power)
     writers = [Writer(lives, Random(f"{seed} writer {number}"), number) for number in range(WRITERS)]
     readers = [Reader(lives, Random(f"{seed} reader {number}")) for number in range(READERS)]
     watcher = Watcher(lives, Random(f"{seed} watcher"))
@@ -266,15 +285,18 @@ def soaked(folder, seconds, seed, power=None):
 
 
 def ended(lives, writers, readers, watcher):
-    asks = [ask for writer in writers for ask in writer.found]
-    reads = [one for reader in readers for one in reader.found]
+    """All that was told, and at the end the whole list, and behind one more start the list once more."""
+    reads = [call for reader in readers for call in reader.found]
     again(lives)
-    asks += frees(lives)
-    again(lives)
-    with Session(lives.server.port) as session:
-        log = whole_list(session)
-        some = lives.random.sample(reads, min(500, len(reads)))
-        reads += [read(lives, session, "exact", one.place, one.sets) for one in some]
+    last = frees(lives)
     again(lives)
     with Session(lives.server.port) as session:
-        return Run(asks, reads, watcher.found, log, whole_list(session), lives.dumps)
+        log = whole_list(lives, session)
+        for call in lives.random.sample(reads, min(500, len(reads))):
+            reads += read(lives, session, "exact", call.place, [call.asked.set])
+    again(lives)
+    with Session(lives.server.port) as session:
+        watches = [*watcher.found, *whole_list(lives, session)]
+    told = [*(("writer", writer.calls()) for writer in writers), ("writer", last), ("reader", reads), ("watcher", watches)]
+    told += [("trouble", lives.restarts), ("dump", lives.dumps), ("end", log)]
+    return Run(lives.seed, SHARDS, [Caller(number, *one) for number, one in enumerate(told)])

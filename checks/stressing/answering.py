@@ -2,8 +2,8 @@
 fault is a rule's name and a text."""
 from collections import defaultdict
 
-from judge.definitions import tuple_text
-from stressing.calls import Check, Read, Restart, Watch, Write, call_text, calls_of, condition_text
+from judge.definitions import condition_text, tuple_text
+from stressing.calls import UNANSWERED, Check, Dump, Read, Restart, Watch, Write, call_text, calls_of
 
 LONGEST = 300
 
@@ -70,9 +70,15 @@ def watch_faults(call, listed, history, moments):
         yield "the events of the list", f"{line_of(call)}: the list has others"
 
 
+def dump_faults(call, listed, history, moments):
+    yield from place_faults(call, ("latest", None), listed, moments)
+    if call.place <= len(listed.log) and [*call.found] != sorted(history.there(history.places, call.place)):
+        yield "the tuples of a dump", f"{line_of(call)}: there are others at its place"
+
+
 def answer_faults(run, listed, history, moments):
     yield from write_faults(listed, history, moments)
-    for kind, rule in ((Read, read_faults), (Check, check_faults), (Watch, watch_faults)):
+    for kind, rule in ((Read, read_faults), (Check, check_faults), (Watch, watch_faults), (Dump, dump_faults)):
         for call in calls_of(run, kind):
             if not call.code:
                 yield from rule(call, listed, history, moments)
@@ -96,8 +102,10 @@ def tuples_of(write):
 
 
 class Refusals:
-    def __init__(self, run, history, moments):
-        self.run, self.history, self.moments = run, history, moments
+    """`of_writes` and `of_answers` are those that may come."""
+
+    def __init__(self, run, history, moments, of_writes=OF_WRITES, of_answers=OF_ANSWERS):
+        self.run, self.history, self.moments, self.of_writes, self.of_answers = run, history, moments, of_writes, of_answers
         self.writes = defaultdict(list)
         for call in calls_of(run, Write):
             for asked in tuples_of(call.asked):
@@ -125,9 +133,9 @@ class Refusals:
 
     def faults(self):
         for call in calls_of(self.run, (Write, Read, Check, Watch)):
-            if not call.code:
+            if not call.code or call.code == UNANSWERED:
                 continue
-            if call.code not in (OF_WRITES if isinstance(call.asked, Write) else OF_ANSWERS):
+            if call.code not in (self.of_writes if isinstance(call.asked, Write) else self.of_answers):
                 yield "a refusal that may come", f"{line_of(call)}: never comes"
             elif not self.has_cause(call):
                 yield f"the cause of refusal {call.code}", f"{line_of(call)}: has no cause"

@@ -1,7 +1,7 @@
 """What a caller asked a store for, what it was told, and how a line has it."""
 from collections import namedtuple
 
-from judge.definitions import change_text, tuple_text
+from judge.definitions import change_text, condition_text, tuple_text
 from judge.lines import REFUSALS
 
 # `begin` and `end` are the ticks of the call, `code` the number of its refusal, none where there was none; `place` is what it was told, and `found` the
@@ -14,6 +14,10 @@ Check = namedtuple("Check", "fresh tuple")
 Watch = namedtuple("Watch", "start limit namespaces")
 Restart = namedtuple("Restart", "node")
 Fail = namedtuple("Fail", "node")
+# All tuples, as `dump` prints them of the files while no server has them.
+Dump = namedtuple("Dump", "")
+# In the place of a refusal: there was no answer, since the server was gone before.
+UNANSWERED = len(REFUSALS) + 1
 
 Caller = namedtuple("Caller", "number kind calls")
 Run = namedtuple("Run", "seed shards callers")
@@ -26,12 +30,6 @@ def calls_of(run, kind):
 def fresh_text(fresh):
     kind, place = fresh
     return {"latest": "latest", "least": f">={place}", "exact": f"={place}"}[kind]
-
-
-def condition_text(condition):
-    marks = {"exists": "?", "absent": "!"}
-    text = tuple_text(condition.tuple)
-    return marks[condition.want] + text if condition.want in marks else f"{text}={condition.want}"
 
 
 def write_text(write):
@@ -64,13 +62,17 @@ def answer_text(call):
     if isinstance(asked, Watch):
         events = (f"{at}{change_text(change)}" for at, change in call.found)
         return listed(f"events {asked.start} {asked.limit} {place} {' '.join(asked.namespaces)}", events)
+    if isinstance(asked, Dump):
+        return listed(f"dumped {place}", map(tuple_text, call.found))
     return f"{'restarted' if isinstance(asked, Restart) else 'failing'} {asked.node}"
 
 
 def call_text(call):
-    refusal = call.code and f"{call.code} {REFUSALS[call.code - 1]}"
-    if not refusal:
+    if not call.code:
         return f"{call.begin} {call.end} {answer_text(call)}"
+    if call.code == UNANSWERED:
+        return f"{call.begin} {call.end} unanswered {asked_text(call.asked)}"
+    refusal = f"{call.code} {REFUSALS[call.code - 1]}"
     if isinstance(call.asked, Restart):
         return f"{call.begin} {call.end} restarted {call.asked.node} {refusal}"
     return f"{call.begin} {call.end} refused {refusal} {asked_text(call.asked)}"

@@ -83,7 +83,11 @@ def judged(lines, seed=None):
         log = log_of(run.callers[-1])
     except Wrong as wrong:
         return None, None, [(rule, str(wrong))]
-    listed, history = Listed(run, log), History(log)
+    return run, *judged_by(run, log)
+
+
+def judged_by(run, log, sends_again=False, **may):
+    """The list of a run, and all faults but those of its form; `may` says which refusals may come."""
+    listed, history = Listed(run, log, sends_again), History(log)
     moments = Moments(run, listed)
-    faults = [*listed.faults, *answer_faults(run, listed, history, moments), *Refusals(run, history, moments).faults()]
-    return run, listed, faults
+    return listed, [*listed.faults, *answer_faults(run, listed, history, moments), *Refusals(run, history, moments, **may).faults()]

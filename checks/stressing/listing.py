@@ -1,10 +1,12 @@
 """The one list of whole writes, which the last part of a run tells, and which call made the write of each place."""
+from collections import defaultdict
+
 from judge.definitions import change_text
 from judge.worlds import must
-from stressing.calls import Watch, Write, calls_of, write_text
+from stressing.calls import UNANSWERED, Watch, Write, calls_of, write_text
 
-# The refusals behind which a write may stand (docs/API.md).
-MAY_STAND = (12,)
+# The refusals behind which a write may stand (docs/API.md), and no answer at all.
+MAY_STAND = (12, UNANSWERED)
 
 
 def spelled(changes):
@@ -29,29 +31,35 @@ def log_of(end):
 
 
 class Listed:
-    """The log, and by each place the call of its write. `faults` has what is wrong with that."""
+    """The log, and by each place the call of its write. `faults` has what is wrong with that. With `sends_again` a write that was refused, or not answered, may
+    be sent again."""
 
-    def __init__(self, run, log):
-        self.log, self.calls, self.faults = log, {}, []
-        by_changes = {}
-        for call in calls_of(run, Write):
-            if call.asked.changes in by_changes:
+    def __init__(self, run, log, sends_again=False):
+        self.log, self.calls, self.faults, self.sent = log, {}, [], defaultdict(list)
+        for call in sorted(calls_of(run, Write), key=lambda call: call.begin):
+            before = self.sent[call.asked.changes][-1:]
+            if before and not (sends_again and before[0].code and before[0].end < call.begin):
                 self.faults.append(("each write differs", f"two writes ask for {write_text(call.asked)}"))
-            by_changes[call.asked.changes] = call
-        placed = set()
+            self.sent[call.asked.changes].append(call)
+        placed, self.begun = set(), 0
         for place, changes in enumerate(log, 1):
-            call = by_changes.get(changes)
-            if call is None:
+            if changes not in self.sent:
                 self.faults.append(("what stands was asked for", f"place {place} has {spelled(changes)}, for which nobody has asked"))
             elif changes in placed:
                 self.faults.append(("a write stands once", f"place {place} has {spelled(changes)}, which stands before it too"))
             else:
                 placed.add(changes)
-                self.stands(place, call)
+                self.stands(place, self.sender(changes))
         self.lost(run)
 
+    def sender(self, changes):
+        """The call that made them: the one that was told so, or the first that may have, and that had not ended when a write below them began."""
+        calls = self.sent[changes]
+        may = [call for call in calls if not call.code] or [call for call in calls if call.code in MAY_STAND] or calls
+        return next((call for call in may if call.end > self.begun), may[-1])
+
     def stands(self, place, call):
-        self.calls[place] = call
+        self.calls[place], self.begun = call, max(self.begun, call.begin)
         if call.code and call.code not in MAY_STAND:
             self.faults.append(("what was refused does not stand", f"place {place} has {write_text(call.asked)}, which was refused with {call.code}"))
 

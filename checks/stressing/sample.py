@@ -11,10 +11,12 @@ LIMIT = 64
 
 
 class Sample:
-    def __init__(self, seed, store):
+    kinds, asker = KINDS, Asker
+
+    def __init__(self, seed, store=Store):
         self.random = Random(seed)
         self.store, self.seed, self.tick = store(self.random), seed, 0
-        self.askers = [Asker(self.random, number, kind) for number, kind in enumerate(KINDS)]
+        self.askers = [self.asker(self.random, number, kind) for number, kind in enumerate(self.kinds)]
         # Of each asker its call on its way: when it began, what it asks, and what it was told, once the store has acted.
         self.calls = {}
 

@@ -11,49 +11,50 @@ from stressing.judging import judged
 from stressing.running import lines_in
 from verdicts import Nothing
 
-KINDS = {**spoiled_lists.KINDS, **spoiled_answers.KINDS, **spoiled_refusals.KINDS, **spoiled_forms.KINDS}
-# How often each kind is tried on a run of at most so many lines; on a longer one it is tried once.
-TRIES, LINES = 3, 5000
+OF_CALLS = {**spoiled_lists.KINDS, **spoiled_answers.KINDS, **spoiled_refusals.KINDS}
+KINDS = {**OF_CALLS, **spoiled_forms.KINDS}
+# How often each kind is tried on a run of at most so many calls; on a longer one it is tried once.
+TRIES, CALLS = 3, 5000
 
-# What a process spoils, made once for all the kinds that it tries.
+# What a process spoils, made once for all the kinds that it tries, with these and their judge.
 grounds = []
 
 
-def begin(lines, seed):
-    run, listed, faults = judged(lines_of(roomy(judged(lines, seed)[0])), seed)
-    if faults:
-        raise Wrong(f"a good run with room between its ticks has {faults[0]}")
-    grounds.append(Ground(run, listed, Random(seed)))
-
-
-def noticed(spoiled, seed):
-    """The rules that this does not keep."""
+def judged_form(spoiled, seed):
+    """The run, its list and the faults of a run, of its lines, or of their bytes."""
     try:
         lines = lines_of(spoiled) if isinstance(spoiled, Run) else lines_in(spoiled) if isinstance(spoiled, bytes) else spoiled
-    except Wrong:
-        return {"bytes are lines"}
-    return {rule for rule, _ in judged(lines, seed)[2]}
+    except Wrong as wrong:
+        return None, None, [("bytes are lines", str(wrong))]
+    return judged(lines, seed)
+
+
+def begin(run, kinds, judge):
+    run, listed, faults = judge(roomy(run), run.seed)
+    if faults:
+        raise Wrong(f"a good run with room between its ticks has {faults[0]}")
+    grounds.append((Ground(run, listed, Random(run.seed)), kinds, judge))
 
 
 def tried(tries, what):
     """The rules that noticed each try of this kind."""
-    ground, found = grounds[-1], []
+    (ground, kinds, judge), found = grounds[-1], []
     ground.random = Random(f"{ground.run.seed} {what}")
     for _ in range(tries):
         try:
-            found.append(noticed(KINDS[what](ground), ground.run.seed))
+            found.append({rule for rule, _ in judge(kinds[what](ground), ground.run.seed)[2]})
         except Nothing:
             pass
     return found
 
 
-def spoiled(runs, rules, alone):
-    """What was spoiled of these runs, each lines and a seed, and whether it was noticed; counts how often each rule noticed something, and alone."""
-    for lines, seed in runs:
-        tries = TRIES if len(lines) <= LINES else 1
-        with ProcessPoolExecutor(initializer=begin, initargs=(lines, seed)) as pool:
-            for what, found in zip(KINDS, pool.map(partial(tried, tries), KINDS)):
+def spoiled(runs, rules, alone, kinds=KINDS, judge=judged_form):
+    """What was spoiled of these runs, and whether it was noticed; counts how often each rule noticed something, and alone."""
+    for run in runs:
+        tries = TRIES if sum(len(caller.calls) for caller in run.callers) <= CALLS else 1
+        with ProcessPoolExecutor(initializer=begin, initargs=(run, kinds, judge)) as pool:
+            for what, found in zip(kinds, pool.map(partial(tried, tries), kinds)):
                 for some in found:
                     rules.update(some)
                     alone.update(some if len(some) == 1 else ())
-                    yield what, some, seed
+                    yield what, some, run.seed

@@ -48,6 +48,8 @@ LAST = {True: ("rows 2", [f"4 +{C}"]), False: ("rows 2", [NO_SHARD])}
 # A run: whether the store was carried over, whether the failing call came within the resharding or the opening behind it, whether it came in the next opening,
 # and what is wrong.
 Run = namedtuple("Run", "carried came is_past fault")
+# What may be printed, with whether the store was carried over then, whether its node was found down behind it, and whether the nodes' next opening found it.
+Right = namedtuple("Right", "carried failed is_past lines")
 
 
 def lines():
@@ -60,23 +62,6 @@ def printed_by(disk, call, byte):
     if status != 0:
         raise ValueError(f"the program ended with status {status}")
     return out.splitlines()
-
-
-# What was printed: whether the store was carried over, whether its node was found down behind it, whether the nodes' next opening found it, and what is wrong.
-Judged = namedtuple("Judged", "carried failed is_past fault")
-
-
-def judged(printed, node):
-    """Of the store that is carried over only this node's disks may fail."""
-    before = [text for _, answer in BEFORE for text in answer]
-    at, carried = len(before), printed[len(before) : len(before) + 1] == ["done"]
-    up, down = usual_openings(carried), [DOWN if it == node else "up" for it in NODES]
-    opened = printed[at + 1 : at + 1 + 2 * len(NODES)]
-    # A node whose opening fails is found by the next one; the old store's disks do not fail.
-    failed, is_past = carried and opened == down + up, carried and opened == up + down
-    openings = opened if failed or is_past else up + up
-    wanted = [*before, "done" if carried else DOWN, *openings, *(looks_where_down(node) if is_past else looks(carried))]
-    return Judged(carried, failed, is_past, None if printed == wanted else f"printed {printed}\nwanted {wanted}")
 
 
 def usual_openings(carried):
@@ -93,15 +78,35 @@ def looks_where_down(node):
     return [text for answer, asked in zip(answers, [*ASKED, "2"]) for text in ([DOWN] if node in asked else answer)]
 
 
+def right(node):
+    """What may be printed where this node's disks fail: those of the store that is carried over alone. A node whose opening fails is found by the next one."""
+    up, down = usual_openings(True), [DOWN if it == node else "up" for it in NODES]
+    before = [text for _, answer in BEFORE for text in answer]
+    return [
+        Right(True, False, False, [*before, "done", *up, *up, *looks(True)]),
+        Right(True, True, False, [*before, "done", *down, *up, *looks(True)]),
+        Right(True, False, True, [*before, "done", *up, *down, *looks_where_down(node)]),
+        Right(False, False, False, [*before, DOWN, *usual_openings(False), *usual_openings(False), *looks(False)]),
+    ]
+
+
+def judged(printed, node):
+    """Which of it was printed, or none."""
+    return next((it for it in right(node) if it.lines == printed), None)
+
+
 def run(disk, call, byte):
+    what, node = f"disk {disk}, call {call}, byte {byte:02x}", NODES[disk // 2]
     try:
         printed = printed_by(disk, call, byte)
     except (ValueError, subprocess.SubprocessError) as wrong:
-        return Run(False, True, False, f"disk {disk}, call {call}, byte {byte:02x}: {wrong}")
-    found = judged(printed, NODES[disk // 2])
+        return Run(False, True, False, f"{what}: {wrong}")
+    found = judged(printed, node)
+    if not found:
+        return Run(False, True, False, "\n".join([f"{what}:", f"printed {printed}", *(f"and may print {it.lines}" for it in right(node))]))
     # Each call up to the last of the first restart has failed in a run before one that comes in the next opening.
     came = not found.is_past and (not found.carried or found.failed or is_down_at_first(disk, call, byte))
-    return Run(found.carried, came, found.is_past, found.fault and f"disk {disk}, call {call}, byte {byte:02x}:\n{found.fault}")
+    return Run(found.carried, came, found.is_past, None)
 
 
 def is_down_at_first(disk, call, byte):
@@ -131,18 +136,6 @@ def carried(pool):
     return sum(len(runs) for _, runs in swept), refused, faults or short
 
 
-def right(carried, openings=None, told=None):
-    """What is printed where no call fails, or where the resharding is refused."""
-    before = [text for _, answer in BEFORE for text in answer]
-    return [*before, "done" if carried else DOWN, *(openings or 2 * usual_openings(carried)), *(told or looks(carried))]
-
-
-def all_right(node):
-    """What may be printed where this node's disks fail."""
-    up, down = usual_openings(True), [DOWN if it == node else "up" for it in NODES]
-    return [right(True), right(False), right(True, down + up), right(True, up + down, looks_where_down(node))]
-
-
 def spoilings(printed):
     """The lines of a wrong program: each line is missing, stands twice, is refused or is another one."""
     for at, line in enumerate(printed):
@@ -153,15 +146,10 @@ def spoilings(printed):
                 yield f"line {at} is {other}", [*printed[:at], other, *printed[at + 1 :]]
 
 
-def refused_right():
-    """Right lines that are refused."""
-    return [found.fault for node in NODES for lines in all_right(node) for found in (judged(lines, node),) if found.fault]
-
-
 def spoiled():
     """Spoiled lines, but for those that are right ones of another run, and whether they are noticed."""
     for node in NODES:
-        for lines in all_right(node):
-            for what, printed in spoilings(lines):
-                if printed not in all_right(node):
-                    yield "a line is another one", judged(printed, node).fault, what
+        every = [it.lines for it in right(node)]
+        for what, printed in (it for lines in every for it in spoilings(lines)):
+            if printed not in every:
+                yield "a line is another one", not judged(printed, node), what

@@ -6,10 +6,9 @@ mod token;
 mod texts;
 
 use request::{Refusal, Request};
+use texts::log::{run, tell};
 use serde::Serialize;
-use std::env;
 use std::io::{self, BufRead, BufReader, Write};
-use std::process::ExitCode;
 use std::time::Instant;
 
 const MAX_LINE: usize = 262_144;
@@ -87,7 +86,7 @@ fn serve(input: &mut impl BufRead, output: &mut impl Write, idle: &mut Idle) -> 
     }
 }
 
-fn measure(name: &str, count: u32) -> Option<()> {
+fn measure(name: &str, count: u64) -> Option<()> {
     let (_, line) = LINES.iter().find(|(each, _)| *each == name)?;
     let input = format!("{line}\n").repeat(count as usize).into_bytes();
     let mut output = Vec::new();
@@ -95,15 +94,10 @@ fn measure(name: &str, count: u32) -> Option<()> {
     let start = Instant::now();
     serve(&mut BufReader::new(input.as_slice()), &mut output, &mut idle).ok()?;
     let took = start.elapsed();
-    eprintln!("lines {count} {} {}", took.as_nanos(), idle.asked + output.len() as u64);
+    tell("lines", count, took, idle.asked + output.len() as u64);
     Some(())
 }
 
-fn main() -> ExitCode {
-    let words: Vec<String> = env::args().collect();
-    let count = words.get(2).and_then(|word| word.parse().ok());
-    match words.get(1).zip(count).and_then(|(name, count)| measure(name, count)) {
-        Some(()) => ExitCode::SUCCESS,
-        None => ExitCode::FAILURE,
-    }
+fn main() {
+    run(measure)
 }

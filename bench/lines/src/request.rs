@@ -1,5 +1,6 @@
 // Requests, from their lines, with the tests of crates/requests in their order: shape, sizes, texts, tokens, repeats.
-use crate::texts::{Object, Tuple, User};
+use crate::texts::log::{Change, Condition, Object, Tuple, User, Want};
+use crate::texts::{self, name};
 use crate::token;
 use serde_json::{Map, Value};
 use std::collections::HashSet;
@@ -24,25 +25,6 @@ impl Refusal {
             Refusal::WrongStore => (6, "WrongStore"),
         }
     }
-}
-
-#[allow(dead_code)]
-pub enum Change {
-    Touch(Tuple),
-    Delete(Tuple),
-}
-
-#[allow(dead_code)]
-pub enum Want {
-    NotAfter(u64),
-    Exists,
-    Absent,
-}
-
-#[allow(dead_code)]
-pub struct Condition {
-    pub tuple: Tuple,
-    pub want: Want,
 }
 
 #[allow(dead_code)]
@@ -106,7 +88,7 @@ fn place_of(zookie: &str, store: u64) -> Result<u64, Refusal> {
 }
 
 fn tuple_of(text: &str) -> Result<Tuple, Refusal> {
-    Tuple::parse(text.as_bytes()).ok_or(Refusal::BadTuple)
+    texts::tuple_of(text.as_bytes()).ok_or(Refusal::BadTuple)
 }
 
 enum Fresh<'a> {
@@ -165,7 +147,7 @@ fn condition_shape(value: &Value) -> Result<(&str, Wanted<'_>), Refusal> {
 
 fn key_of(tuple: &Tuple) -> Vec<u8> {
     let mut text = Vec::new();
-    tuple.write_to(&mut text);
+    texts::write_tuple(tuple, &mut text);
     text
 }
 
@@ -214,15 +196,6 @@ fn read_of(members: &Members, store: u64) -> Result<Request, Refusal> {
     Ok(Request::Read(fresh.placed(store)?, sets))
 }
 
-fn is_name(bytes: &[u8]) -> bool {
-    let each = |b: &u8| b.is_ascii_lowercase() || b.is_ascii_digit() || *b == b'_';
-    !bytes.is_empty() && bytes.len() <= 64 && bytes.iter().all(each)
-}
-
-fn name(bytes: &[u8]) -> Option<Vec<u8>> {
-    is_name(bytes).then(|| bytes.to_vec())
-}
-
 fn with_relation(text: &[u8]) -> Option<(&[u8], Option<Vec<u8>>)> {
     match text.iter().position(|b| *b == b'#') {
         Some(at) => Some((&text[..at], Some(name(&text[at + 1..])?))),
@@ -234,12 +207,12 @@ fn set_of(text: &[u8]) -> Option<Tupleset> {
     match text.iter().position(|b| *b == b'@') {
         None => {
             let (object, relation) = with_relation(text)?;
-            Some(Tupleset::OfObject(Object::parse(object)?, relation))
+            Some(Tupleset::OfObject(texts::object_of(object)?, relation))
         }
-        Some(at) if text[..at].contains(&b':') => Some(Tupleset::Key(Tuple::parse(text)?)),
+        Some(at) if text[..at].contains(&b':') => Some(Tupleset::Key(texts::tuple_of(text)?)),
         Some(at) => {
             let (namespace, relation) = with_relation(&text[..at])?;
-            Some(Tupleset::OfUser(name(namespace)?, User::parse(&text[at + 1..])?, relation))
+            Some(Tupleset::OfUser(name(namespace)?, texts::user_of(&text[at + 1..])?, relation))
         }
     }
 }

@@ -40,7 +40,7 @@ module _ {D : Type 0} (state : D → State) (honest : D → Type 0) (moment : D 
   abbrev asked : Asked
   asked = to_check fresh x u
 
-  -- in a slot behind its turn, or out of it, it tells this, and the promise of a step is kept
+  -- in a slot after its turn, or out of it, it tells this, and the promise of a step is kept
   abbrev Leads : CheckView → Type 0
   Leads a = SlotTurns slot (shown_answer asked (checking h)) (check_in_slot asked a a.ended) old new → TurnRuns state honest moment left_since store shards old slot (check_tells a.ended ∷ []) new
 
@@ -81,11 +81,11 @@ module _ {D : Type 0} (state : D → State) (honest : D → Type 0) (moment : D 
   no_batch : (m : Machine) → IfHeld None (IsRightBatch m)
   no_batch m b none = absurd (let bad : None ≡ Some b = none in cc)
 
-  -- as many were walked as may be, and one waits still
+  -- as many were walked as may be, and one still waits
   abbrev FullHasCause : CheckHolds → Type 0
   FullHasCause k = max_walked ≤ length k.walked → (y : Userset) → Contains k.waiting y → (now : Moment) (standing : StandsOver state honest store shards old now) (r : Running) → Is now r → (n : NodeName) (ran : Moment) → IsCause shards n now ran r Full
 
-  -- it goes on to the first userset that waits, says no where none does, or is refused
+  -- it goes on to the first waiting userset, says no if there is none, or is refused
   continues : (place : ℕ) (k : CheckHolds) (after : CheckView) → k.place ≡ Some place → Right k → FullHasCause k → Continues place k after → Leads after
   continues place k after at right full gives = by_waiting k.waiting refl
     where
@@ -145,7 +145,7 @@ module _ {D : Type 0} (state : D → State) (honest : D → Type 0) (moment : D 
       none_walked : FullHasCause h
       none_walked many y waits now standing r flow n ran = absurd (let empty = (held now standing r flow).nothing nowhere in omega (arith, many, ap (λ (l : List Userset). length l) empty.0))
 
-  -- behind a flush it asks again
+  -- after a flush it asks again
   by_flush : (was is : NodeView D) (r : Result (Unit {0}) Refusal) (after : CheckView) → IsCalled state honest moment left_since store shards coordinator was is old new
       → Answered state honest moment left_since was (of_coordinator calls.Flush) (from_coordinator (told.Flush r)) is → FlushGives (waiting flush flush_call h) r after → Leads after
   by_flush was is (Err e) after c so gives = subst Leads (sym gives) (fails_to state honest moment left_since store shards old new slot asked refl (checking h) coordinator e calls_coordinator
@@ -154,7 +154,7 @@ module _ {D : Type 0} (state : D → State) (honest : D → Type 0) (moment : D 
       let it = coordinator_flushed state honest moment left_since counts_now only_now store shards old new now standing was is (Ok done) c so in
       (it.0, all_kept now.machine (it.1.durable ++ it.1.staged), it.2, λ q k. k)))
 
-  -- it brings the shard of the first userset that waits up to its place
+  -- it brings the shard of the first waiting userset up to its place
   module _ (call : NodeCall) (out : CheckView) (reply : Reply) (after : CheckView) (was is : NodeView D) (v : CheckView) (own : v.holds ≡ h) (asks : CatchesUp shards v call out)
       (gives : MatchOption out.awaited ⊥ (λ awaited. GivesTo fresh u out awaited reply after)) (fits : FitsItsTypes call) (c : IsCalled state honest moment left_since store shards (called call) was is old new)
       (so : Answered state honest moment left_since was call reply is) where
@@ -211,7 +211,7 @@ module _ {D : Type 0} (state : D → State) (honest : D → Type 0) (moment : D 
     by_way : Leads after
     by_way = by_progress it.progress comes it.then_gives
 
-  -- it reads the first userset that waits, at its shard
+  -- it reads the first waiting userset, at its shard
   module _ (y : Userset) (place : ℕ) (at : h.place ≡ Some place) (first : slice_get h.waiting 0 ≡ Some y) (was is : NodeView D)
       (c : IsCalled state honest moment left_since store shards (shard (shard_of shards y.object)) was is old new) where
     abbrev s : ℕ

@@ -36,7 +36,7 @@ module _ {D : Type 0} (state : D → State) (honest : D → Type 0) (moment : D 
   held_now now standing r flow = subst (λ (a : Asked). IsRight shards (stops state honest store shards old.devices) now r a holds) flow.asked_is
       (subst (λ (x : Holds). IsRight shards (stops state honest store shards old.devices) now r r.asked x) flow.holds_are (standing.stands.flows.held r flow.runs))
 
-  -- what is held is right behind the call, and has seen the machine there
+  -- what is held is right after the call, and has seen the machine there
   abbrev pub IsRightBehind : Running → Moment → Nodes → Machine → Holds → Holds → Type 0
   IsRightBehind r now next m x k = IsRight shards (stops state honest store shards new.devices) (behind_call now next m) (with_call r x r.met m) asked k
 
@@ -81,14 +81,14 @@ module _ {D : Type 0} (state : D → State) (honest : D → Type 0) (moment : D 
       let it = quietly now standing flow.0 is_flow in
       refused_by state honest moment left_since store shards old new now standing number slot f None turns flow.0 flow.1 asked flow.2 refl no_write it.0 it.1 it.2 e refl it.3
 
-  -- as where memory was refused, to a flow that takes some
+  -- as when memory was refused, to a flow that takes some
   pub lacks_memory : TakesMemory asked → Quietly (λ now standing r next m. Unit {0}) → EndsBy (refuses NoMemory)
   lacks_memory takes quietly = refuses_to NoMemory (λ now standing r flow. let it = quietly now standing r flow in (it.0, it.1, it.2, (inl (subst TakesMemory (sym flow.asked_is) takes), not_unsure)))
     where
       not_unsure : NoMemory ≢ Unsure
       not_unsure same = cc
 
-  -- or where a node is away, or its flush failed
+  -- or if a node is away, or its flush failed
   pub fails_to : (n : NodeName) (e : Refusal) → Calls shards asked holds n → ((now : Moment) (standing : StandsOver state honest store shards old now) → FailsQuietly state honest moment left_since store shards old new now standing n e)
       → EndsBy (refuses e)
   fails_to n e calls fails turns number now standing =
@@ -96,7 +96,7 @@ module _ {D : Type 0} (state : D → State) (honest : D → Type 0) (moment : D 
       let flow = the_flow state honest moment left_since store shards old new now standing number slot f None turns in
       fails_with state honest moment left_since store shards old new now standing number slot f None turns flow.0 flow.1 asked flow.2 refl no_write n e calls refl (fails now standing)
 
-  -- or where heads tell that it wants what is not kept yet, or what lies below the horizon
+  -- or if heads tell that it wants what is not kept yet, or what lies below the horizon
   module _ (counts_now : (d : D) (t : ℕ) (c : List ℕ) → honest d → t ≤ moment d → left (state d) c → left_since d t c) (only_now : (d : D) (c : List ℕ) → honest d → left_since d (moment d) c → left (state d) c)
       (was is : NodeView D) (v : HeadsValue) (c : IsCalled state honest moment left_since store shards coordinator was is old new)
       (so : Answered state honest moment left_since was (of_coordinator calls.Heads) (from_coordinator (told.Heads (Ok v))) is) where

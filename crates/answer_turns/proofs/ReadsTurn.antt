@@ -43,7 +43,7 @@ module _ {D : Type 0} (state : D → State) (honest : D → Type 0) (moment : D 
   abbrev asked : Asked
   asked = to_read fresh sets
 
-  -- in a slot behind its turn, or out of it, it tells this, and the promise of a step is kept
+  -- in a slot after its turn, or out of it, it tells this, and the promise of a step is kept
   abbrev Leads : ReadView → Type 0
   Leads a = SlotTurns slot (shown_answer asked (reading h)) (read_in_slot asked a a.ended) old new → TurnRuns state honest moment left_since store shards old slot (read_tells a.ended ∷ []) new
 
@@ -95,7 +95,7 @@ module _ {D : Type 0} (state : D → State) (honest : D → Type 0) (moment : D 
     batch = no_batch now.machine;
   }
 
-  -- it goes on to its next tupleset, or answers behind the last one
+  -- it goes on to its next tupleset, or answers after the last one
   continues : (place : ℕ) (k : ReadHolds) (after : ReadView) → k.place ≡ Some place → Right k → Continues sets place k after → Leads after
   continues place k after at right gives = ⊎_elim
       (λ (lt : length k.done < length sets). ⊎_elim
@@ -147,7 +147,7 @@ module _ {D : Type 0} (state : D → State) (honest : D → Type 0) (moment : D 
                 (places_are_found (behind_call now now.nodes now.machine) later fresh v place right (finds_place fresh v place found)),
           )
 
-  -- behind a flush it asks again
+  -- after a flush it asks again
   by_flush : (was is : NodeView D) (r : Result (Unit {0}) Refusal) (after : ReadView) → IsCalled state honest moment left_since store shards coordinator was is old new
       → Answered state honest moment left_since was (of_coordinator calls.Flush) (from_coordinator (told.Flush r)) is → FlushGives r after → Leads after
   by_flush was is (Err e) after c so gives = subst Leads (sym gives) (fails_to state honest moment left_since store shards old new slot asked refl (reading h) coordinator e calls_coordinator
@@ -245,7 +245,7 @@ module _ {D : Type 0} (state : D → State) (honest : D → Type 0) (moment : D 
         ))
         gives
 
-    -- with the rows of one shard more it holds what is right
+    -- with the rows of one more shard it holds what is right
     abbrev with_more : List Tuple → ReadHolds
     with_more merged = record h { below = h.below + 1; rows = merged }
 
@@ -256,7 +256,7 @@ module _ {D : Type 0} (state : D → State) (honest : D → Type 0) (moment : D 
     merged_right more merged is_merged now r x chosen k = reads_go_on_all store shards (stops state honest store shards new.devices) (behind_call now now.nodes now.machine) (with_call r x r.met now.machine) fresh sets h place set more merged
         k is_reading chosen (is_merged (k.rows place set at next_set).ascending chosen.ascending)
 
-    -- those of one shard more are merged with the others, and behind the last shard the tupleset is done
+    -- those of one more shard are merged with the others, and after the last shard the tupleset is done
     by_all : (more : List Tuple) (after : ReadView) → h.below < shards → Selects h.below set more → Merges shards sets place h more after → Leads after
     by_all more after few selects gives = ⊎_elim
         (λ (lt : h.below + 1 < shards). subst Leads (sym (gives.next lt)) (goes (with_more gives.merged) catch_up (λ now standing r flow.

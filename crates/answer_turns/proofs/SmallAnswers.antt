@@ -1,4 +1,4 @@
--- Small turns of a read: it asks the heads of a coordinator whose opening was refused, and ends with that refusal. And turns of it that are none.
+-- Small turns of a read: it asks the heads of a coordinator whose opening was refused, and ends with that refusal. And some that are not turns of it.
 use Rattle.std.proofs.Common.{◌≡◌, ◌≢◌, ◌≤◌, ℕ, zero, suc, Bool, true, false, List, [], ◌∷◌, length, Option, Err, Some, None, MatchOption, if◌then◌else◌, refl, sym, ap, subst, arith}
 use Rattle.std.proofs.lemmas.Option.{none-some}
 use Rattle.refusal.specs.declared.refusal.Refusal.TheVariants.{Down}

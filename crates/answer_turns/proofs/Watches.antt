@@ -30,7 +30,7 @@ module _ {D : Type 0} (state : D → State) (honest : D → Type 0) (moment : D 
   abbrev asked : Asked
   asked = to_watch cursor limit names
 
-  -- in a slot behind its turn, or out of it, it tells this, and the promise of a step is kept
+  -- in a slot after its turn, or out of it, it tells this, and the promise of a step is kept
   abbrev Leads : WatchView → Type 0
   Leads a = SlotTurns slot (shown_answer asked (watching h)) (watch_in_slot asked a a.ended) old new → TurnRuns state honest moment left_since store shards old slot (watch_tells a.ended ∷ []) new
 
@@ -83,7 +83,7 @@ module _ {D : Type 0} (state : D → State) (honest : D → Type 0) (moment : D 
           let it = heads_told state honest moment left_since counts_now only_now store shards old new now standing was is (Ok v) c so in
           (now.nodes, now.machine, it.0, λ q k. record { heads = λ x none. absurd (let bad : None ≡ Some x = none in cc); batch = λ b none. absurd (let bad : None ≡ Some b = none in cc) }))
 
-  -- behind a flush it asks again
+  -- after a flush it asks again
   by_flush : (was is : NodeView D) (r : Result (Unit {0}) Refusal) (after : WatchView) → IsCalled state honest moment left_since store shards coordinator was is old new
       → Answered state honest moment left_since was (of_coordinator calls.Flush) (from_coordinator (told.Flush r)) is → FlushGives r after → Leads after
   by_flush was is (Err e) after c so gives = subst Leads (sym gives) (fails e (λ now standing. coordinator_flushed state honest moment left_since counts_now only_now store shards old new now standing was is (Err e) c so))
@@ -91,7 +91,7 @@ module _ {D : Type 0} (state : D → State) (honest : D → Type 0) (moment : D 
       let it = coordinator_flushed state honest moment left_since counts_now only_now store shards old new now standing was is (Ok x) c so in
       (it.0, _, it.2, λ q k. record { heads = λ y none. absurd (let bad : None ≡ Some y = none in cc); batch = λ b none. absurd (let bad : None ≡ Some b = none in cc) })))
 
-  -- it lists the decisions behind its cursor
+  -- it lists the decisions after its cursor
   by_batch : (v : HeadsValue) → h ≡ with_heads v → cursor ≤ heartbeat cursor limit v → (was is : NodeView D) (r : Result BatchValue Refusal) (after : WatchView) → IsCalled state honest moment left_since store shards coordinator was is old new
       → Answered state honest moment left_since was (of_coordinator (calls.Batch cursor (heartbeat cursor limit v))) (from_coordinator (told.Batch r)) is → BatchGives cursor limit names (waiting batch h) r after → Leads after
   by_batch v has low was is (Ok b) after c so gives = ⊎_elim

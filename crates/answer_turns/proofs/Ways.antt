@@ -1,4 +1,4 @@
--- A catch-up in a flow that answers a request: what it makes of a reply does not rest on the shard that it names.
+-- A catch-up in a flow that answers a request: what it makes of a reply does not depend on the shard that it names.
 use Rattle.std.proofs.Common.{◌≡◌, ◌≤◌, ℕ, Bool, List, Option, Ok, Err, sym, ◌∙◌, ap, subst}
 use Rattle.answer_turns.proofs.Words.{Answered, BatchValue, CatchUpComes, FitsItsTypes, IsCalled, IsCatchingUp, Moment, Next, NodeCall, NodeView, Progress, Reply, Running, StandsOver, State, Store, There, called, from_coordinator, from_shard, left}
 use Rattle.names.specs.declared.call_name.CallName.{CallName}
@@ -42,7 +42,7 @@ module _ {D : Type 0} (state : D → State) (honest : D → Type 0) (moment : D 
         ∙ ap (λ (b : Option BatchValue). with_them given.held.to b then.awaited) (sym batch_is)
         ∙ ap (λ (a : Awaited). with_them given.held.to given.held.batch a) (sym awaited_is)
 
-    -- what a call of the catch-up came to, where what is held of it while the call is out is known but for the shard
+    -- what a call of the catch-up came to, if what is held of it while the call is out is known except for the shard
     pub came : (reply : Reply) (progress : Progress) (was is : NodeView D) → FitsItsTypes call → IsCalled state honest moment left_since store shards (called call) was is old new
         → Answered state honest moment left_since was call reply is → Gives given reply progress
         → (now : Moment) (standing : StandsOver state honest store shards old now) (r : Running) → IsCatchingUp state honest moment left_since counts_now only_now store shards old new now standing r way

@@ -1,4 +1,4 @@
--- A turn of a check: its next call is made, and the check makes of the reply what it makes.
+-- A turn of a check: its next call is made, and the check takes the reply.
 use Rattle.std.specs.Prelude.{◌≡◌, ℕ, List, [], ◌∷◌, Option, Some, None, MatchOption}
 use Rattle.device.specs.Device.{State}
 use Rattle.tuples.specs.declared.object.Userset.{Userset}
@@ -21,7 +21,7 @@ use Rattle.answer_turns.specs.AnswerTurns.{shown_answer}
 abbrev pub check_of : Userset → CheckFlowValue → Asked
 check_of x v = to_check v.fresh x v.user
 
--- behind its turn it stands in its slot, unless it has ended
+-- after its turn it stands in its slot, unless it has ended
 abbrev pub check_in_slot : Asked → CheckView → Option CheckEnding → Option FlowView
 check_in_slot asked v None = Some (shown_answer asked (checking v.holds))
 check_in_slot asked v (Some end) = None
@@ -35,8 +35,8 @@ check_tells (Some (views.refused e)) = refuses e
 -- Given what a device holds and whether it is honest, how often a stop may have come at it, what a stop since then may have left, and a store's id
 -- and number of shards
 module _ {D : Type 0} (state : D → State) (honest : D → Type 0) (moment : D → ℕ) (left_since : D → ℕ → List ℕ → Type 0) (store shards : ℕ) where
-  -- The check in this slot, of a store of so many shards, which was asked about this userset what is in range, makes its next call of one node of the store,
-  -- and is seen behind it as given.
+  -- The check in this slot, of a store of this many shards, which was asked about this userset what is in range, makes its next call of one node of the
+  -- store, and is then seen as given.
   pub record CheckTurns (old new : Store D) (slot : ℕ) (x : Userset) (v : CheckFlowValue) (after : CheckView) : Type 0 where
     pub of_store : v.shards ≡ shards
     pub asked : IsAsked shards (check_of x v)

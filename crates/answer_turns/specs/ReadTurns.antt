@@ -1,4 +1,4 @@
--- A turn of a read: its next call is made, and the read makes of the reply what it makes.
+-- A turn of a read: its next call is made, and the read takes the reply.
 use Rattle.std.specs.Prelude.{◌≡◌, ℕ, List, [], ◌∷◌, Option, Some, None, MatchOption}
 use Rattle.device.specs.Device.{State}
 use Rattle.calls.specs.Asking as asking
@@ -20,7 +20,7 @@ use Rattle.answer_turns.specs.AnswerTurns.{shown_answer}
 abbrev pub read_of : ReadFlowValue → Asked
 read_of v = to_read v.fresh v.sets
 
--- behind its turn it stands in its slot, unless it has ended
+-- after its turn it stands in its slot, unless it has ended
 abbrev pub read_in_slot : Asked → ReadView → Option ReadEnding → Option FlowView
 read_in_slot asked v None = Some (shown_answer asked (reading v.holds))
 read_in_slot asked v (Some end) = None
@@ -34,8 +34,8 @@ read_tells (Some (views.refused e)) = refuses e
 -- Given what a device holds and whether it is honest, how often a stop may have come at it, what a stop since then may have left, and a store's id
 -- and number of shards
 module _ {D : Type 0} (state : D → State) (honest : D → Type 0) (moment : D → ℕ) (left_since : D → ℕ → List ℕ → Type 0) (store shards : ℕ) where
-  -- The read in this slot, of a store of so many shards, which was asked what is in range, makes its next call of one node of the store, and is seen behind
-  -- it as given.
+  -- The read in this slot, of a store of this many shards, which was asked what is in range, makes its next call of one node of the store, and is then seen
+  -- as given.
   pub record ReadTurns (old new : Store D) (slot : ℕ) (v : ReadFlowValue) (after : ReadView) : Type 0 where
     pub of_store : v.shards ≡ shards
     pub asked : IsAsked shards (read_of v)

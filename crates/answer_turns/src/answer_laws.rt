@@ -6,7 +6,7 @@ ghost use Rattle.answer_turns.specs.ReadTurns.{ReadsTurn};
 
 use device::Device;
 
-/// A watch goes on with heads that are right, lists the changes behind its cursor, or ends with a refusal that has its cause.
+/// A watch goes on with heads that are right, lists the changes after its cursor, or ends with a refusal that has its cause.
 pub fn watches_take_their_turn<D: Device>()
     ensures { (store shards : ℕ) → WatchesTurn D.state D.honest D.moment D.left_since store shards }
 {}

@@ -31,11 +31,11 @@ pub as_it_is : (x l : ℕ) → l ≡ escape_letter x → l ≤ 0 → 32 ≤ x �
 unfolding escape_byte
 as_it_is x l e none high = sym (passed (escape_letter x) _ _ (omega (arith, e, none)) ∙ from_space x _ _ high)
 
--- a byte that is none of those which are escaped
+-- a byte that is not escaped
 no_letter : (x : ℕ) → 32 ≤ x → (x ≡ 34 → ⊥) → (x ≡ 92 → ⊥) → 0 ≡ escape_letter x
 no_letter x high quote slash = grind (arith, nat_tests)
 
--- one byte more
+-- one more byte
 pub one_byte_more : (text : List ℕ) (i : ℕ) → i < length text → escape (take i text) ++ escape_byte (get_or text i 0) ≡ escape (take (i + 1) text)
 one_byte_more text i h =
     let x : ℕ = get_or text i 0 in

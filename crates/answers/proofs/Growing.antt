@@ -4,7 +4,7 @@ use Rattle.std.proofs.lemmas.List.{append_assoc, length-append, take-take, take_
 use Rattle.answers.specs.declared.text.Text.{Text}
 use Rattle.answers.specs.Grown.{Grown}
 
--- what stood in front stays there behind one more part
+-- what stood in front stays there after one more part
 front_of : (o m n a : List ℕ) → m ≡ o ++ a → take (length m) n ≡ m → take (length o) n ≡ o
 front_of o m n a e h =
     let longer : length o ≤ length m = omega (arith, ap length e, length-append o a) in
@@ -31,7 +31,7 @@ then_by {o = o} {m = m} {n = n} {a = a} {b = b} true full_then p q = record {
   capacity = omega (arith, p.capacity, q.capacity);
 }
 
--- two parts, one after the other
+-- two parts, one after another
 pub grown_then : {o m n : Text} {a b : List ℕ} → Grown o m a → Grown m n b → Grown o n (a ++ b)
 grown_then {m = m} p q = then_by m.is_full refl p q
 

@@ -1,4 +1,4 @@
--- One element more of a list.
+-- One more element of a list.
 use Rattle.std.proofs.Common.{◌≡◌, ℕ, ◌+◌, ◌<◌, ◌≤◌, Bool, true, List, [], ◌∷◌, ◌++◌, map, length, drop, get_or, sym, ap, ◌∙◌}
 use Rattle.std.proofs.lemmas.List.{append_assoc, at_drop_all, at_drop_more}
 use Rattle.serde_json.specs.Data.{Data}

@@ -6,7 +6,7 @@ use Rattle.serde_json.specs.Written.{compact_text, items_text}
 use Rattle.answers.specs.declared.text.Text.{Text}
 use Rattle.answers.specs.Grown.{Grown}
 
--- the text of the first elements; behind it stands that of the others
+-- the text of the first elements; after it stands that of the others
 pub record Listing {A : Type 0} (json : A → Data) (xs : List A) (i : ℕ) (is_later : Bool) (old new : Text) : Type 0 where
   pub text : List ℕ
   pub grown : Grown old new text

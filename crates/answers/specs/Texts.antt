@@ -55,7 +55,7 @@ event_json event = object (member (codes "change") (string (change_name event.ch
 abbrev pub events_json : List Version → Data
 events_json events = array (items_of (map event_json events))
 
--- {"zookie":Z}; places are told by the zookies of this store
+-- {"zookie":Z}; places are written as the zookies of this store
 abbrev pub written_json : ℕ → Written → Data
 written_json store w = object (member (codes "zookie") (zookie_json store w.place) no_members)
 

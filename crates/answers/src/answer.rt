@@ -16,21 +16,21 @@ pub struct Written {
     pub place: u64,
 }
 
-/// The tuples of each tupleset of a read, and the place that they are of.
+/// The tuples of each tupleset of a read, and their place.
 #[derive(Drop)]
 pub struct Rows {
     pub sets: Vec<Vec<Tuple>>,
     pub place: u64,
 }
 
-/// Whether the user of a check is in the userset, and the place that this is of.
+/// Whether the user of a check is in the userset, and at which place.
 #[derive(Clone, Copy, Debug, PartialEq, Eq)]
 pub struct Membership {
     pub is_member: bool,
     pub place: u64,
 }
 
-/// The changes of a watch, and the place up to which they are all.
+/// The changes of a watch, and the place up to which they are complete.
 #[derive(Drop)]
 pub struct Events {
     pub events: Vec<Version>,
@@ -51,8 +51,8 @@ pub enum Answer {
 }
 
 impl Answer {
-    /// Appends the text, whose tokens are those of the store with this id. It is refused only where the vector had no room for
-    /// all of it, and then nothing is written.
+    /// Appends the text, whose tokens are those of the store with this id. Refused only if the vector has no room for all of
+    /// it; then nothing is written.
     pub fn write_to(&self, store: u64, out: &mut Vec<u8>) -> Result<(), AllocError>
         ensures ok { OnOk result (out.new.items ≡ out.old.items ++ line_of store self.now) }
         ensures err { OnErr result (out.new.items ≡ out.old.items) }
@@ -65,7 +65,7 @@ impl Answer {
     }
 }
 
-/// Appends the text of the refusal. It is refused only where the vector had no room for all of it, and then nothing is written.
+/// Appends the text of the refusal. Refused only if the vector has no room for all of it; then nothing is written.
 pub fn write_refusal(refusal: Refusal, out: &mut Vec<u8>) -> Result<(), AllocError>
     ensures ok { OnOk result (out.new.items ≡ out.old.items ++ refusal_line refusal) }
     ensures err { OnErr result (out.new.items ≡ out.old.items) }

@@ -1,8 +1,8 @@
 //! The texts of answers.
 //!
 //! Keeps: a text is compact JSON, its keys in byte order, without a line feed; it is appended whole or not at all.
-//! Never: takes memory but for the text itself, or looks at a store.
-//! Callers rely on: a text is refused only where the vector had no room for all of it.
+//! Never: takes memory except for the text itself, or looks at a store.
+//! Callers rely on: a text is refused only if the vector had no room for all of it.
 //!
 //! Start at `specs/Texts.antt`.
 #![tactic(auto)]

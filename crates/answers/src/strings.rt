@@ -13,7 +13,7 @@ use zookie::Zookie;
 // Below this a byte is escaped.
 const SPACE: u8 = 0x20;
 
-// The letter of the short escape of the byte, or 0 where it has none.
+// The letter of the short escape of the byte, or 0 if it has none.
 fn escape_letter(byte: u8) -> u8
     ensures { result ≡ letter_of byte }
 {

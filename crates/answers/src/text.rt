@@ -8,7 +8,7 @@ ghost use Rattle.answers.specs.Grown.{Grown};
 use itoa::Buffer;
 use std::alloc::AllocError;
 
-/// A text in the making, behind what stands in a vector. Where the vector has no room for a part, it takes none that follows either.
+/// A text in the making, after what stands in a vector. Once the vector has no room for a part, it takes no later part either.
 #[derive(Drop)]
 pub struct Text<'a> {
     out: &'a mut Vec<u8>,
@@ -17,7 +17,7 @@ pub struct Text<'a> {
 }
 
 impl<'a> Text<'a> {
-    /// An empty text behind these bytes.
+    /// An empty text after these bytes.
     pub fn behind(out: &'a mut Vec<u8>) -> Text<'a>
         ensures same_reference { result.out.ghost_name ≡ out.entry.ghost_name }
         ensures empty { (result.out.now ≡ out.old) × (result.start ≡ length out.old.items) × (result.is_full ≡ false) }
@@ -30,7 +30,7 @@ impl<'a> Text<'a> {
         }
     }
 
-    /// Appends the bytes, where there was room for all before them.
+    /// Appends the bytes, if there was room for everything before them.
     pub fn push(&mut self, part: &[u8])
         ensures { Grown self.old self.new part.now }
     {
@@ -53,7 +53,7 @@ impl<'a> Text<'a> {
         self.push(if is_true { b"true" } else { b"false" });
     }
 
-    /// The vector has the whole text, or, where that had no room, nothing of it.
+    /// The vector has the whole text, or, if there was no room, nothing of it.
     pub fn end(self) -> Result<(), AllocError>
         ensures ok { OnOk result ((self.entry.is_full ≡ false) × (self.exit.0.now ≡ self.entry.out.now)) }
         ensures err { OnErr result ((self.entry.is_full ≡ true) × (self.exit.0.now.items ≡ take self.entry.start self.entry.out.now.items)) }

@@ -29,7 +29,7 @@ found_is state [] any le = absurd (omega (arith, le))
 found_is state (a ∷ []) any le = absurd (omega (arith, le))
 found_is state (a ∷ b ∷ rest) any le = refl
 
--- Of two devices that were just opened no other records are found than those that they read.
+-- No records are found of two devices that were just opened but those that they read.
 pub found_again : {D : Type 0} (state : D → State) (a b : D) (rs : List Record) → IsFresh (state a).seen (state a) → IsFresh (state b).seen (state b)
     → found (state a).seen (state b).seen ≡ Some rs → (other : List Record) → Finds (left (state a)) (left (state b)) other → rs ≡ other
 found_again state a b rs fresh_a fresh_b is other finds =

@@ -1,4 +1,4 @@
--- Devices that were just opened are at rest, where one store rests of them.
+-- Devices that were just opened are at rest, if one store rests over them.
 use Rattle.std.proofs.Common.{◌≡◌, ◌≤◌, ◌<◌, ◌+◌, ◌*◌, ℕ, List, [], length, take, Some, All, slice_index_or, sym, ◌∙◌, ap, subst, arith}
 use Rattle.std.proofs.lemmas.List.{append-nil}
 use Rattle.device.specs.Device.{State, left}

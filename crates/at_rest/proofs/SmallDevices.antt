@@ -43,7 +43,7 @@ IsBlank s = IsNew (λ (s : State). s) (λ (s : State). Unit {0}) s
 is_new : IsNew (λ (s : State). s) (λ (s : State). Unit {0}) blank
 is_new = record { is_honest = tt; unmade = record { durable = refl; written = refl } }
 
--- Four devices that nobody has written are at rest, at the empty list.
+-- Four devices that nobody has written to are at rest, at the empty list.
 blanks_are_at_rest : AreAt [] blanks
 unfolding found gated current_bank is_complete coordinator_state
 blanks_are_at_rest = record {

@@ -13,7 +13,7 @@ use Rattle.at_rest.proofs.Moments.{shard_has_rows}
 
 module _ {D : Type 0} (state : D → State) (honest : D → Type 0) (moment : D → ℕ) (left_since : D → ℕ → List ℕ → Type 0)
     (counts_now : (d : D) (t : ℕ) (c : List ℕ) → honest d → t ≤ moment d → left (state d) c → left_since d t c) (store shards : ℕ) where
-  -- of a coordinator that is up and tied to the list whatever a stop leaves can be read
+  -- if a coordinator is up and tied to the list, whatever a stop leaves can be read
   up_is_read : (v : CoordinatorView D) (seen : List Entry) (low : ℕ) (tried : List Attempt) → IsTiedUp state honest v seen low tried
       → AreReadOfLog state honest moment left_since store shards seen low tried v.a v.b
   up_is_read v seen low tried tied = (anywhere state honest v seen low tried tied, λ x y in_x in_y. (v.durable, tied.running.rest x y in_x in_y))

@@ -17,7 +17,7 @@ module _ {D : Type 0} (state : D → State) (honest : D → Type 0) where
   abbrev pub IsJustOpened : D → Type 0
   IsJustOpened d = IsFresh (state d).seen (state d)
 
-  -- Whatever machine a closed store rests at: where all its devices were just opened, they are at rest at a beginning of its list, with all that
+  -- Whatever machine a closed store rests at: if all its devices were just opened, they are at rest at a beginning of its list, with all that
   -- was kept, and at no lower horizon.
   abbrev pub WhatRestsIsAtRest : Type 0
   WhatRestsIsAtRest = (store shards : ℕ) (any : D) (devices : List D) (m : Machine) → length devices ≡ 2 * (shards + 1) → All IsJustOpened devices
@@ -28,11 +28,11 @@ module _ {D : Type 0} (state : D → State) (honest : D → Type 0) where
   abbrev pub AreReadable : D → D → Type 0
   AreReadable a b = (c d : List ℕ) → left (state a) c → left (state b) d → (rs : List Record) × (found c d ≡ Some rs)
 
-  -- Whatever list devices rest at, with more behind it or not: where the coordinator's can be read, those that were just opened and find what a stop leaves are at
-  -- rest at that list, with more behind it or not, and at no lower horizon.
+  -- Whatever list devices rest at, with more after it or not: if the coordinator's can be read, those that were just opened and find what a stop leaves are at
+  -- rest at that list, with more after it or not, and at no lower horizon.
   --
-  -- A store that is served rests at its list between two calls of its nodes; what a stop within one leaves `WhatAStopLeavesIsAtRest` tells. The list is the whole
-  -- one still, behind checkpoints too: a checkpoint moves the base, and what lies below it the shards have.
+  -- A store that is served rests at its list between two calls of its nodes; `WhatAStopLeavesIsAtRest` says what a stop within one leaves. The list is still the
+  -- whole one, after checkpoints too: a checkpoint moves the base, and the shards have what lies below it.
   abbrev pub WhatIsFoundIsAtRest : Type 0
   WhatIsFoundIsAtRest = (shards : ℕ) (any : D) (first : List Entry) (low : ℕ) (olds news : List D) → length olds ≡ 2 * (shards + 1)
       → RestAt state honest shards first low olds → AreReadable (slice_index_or olds 0 any) (slice_index_or olds 1 any) → AreFoundOf state honest olds news → All IsJustOpened news

@@ -52,7 +52,7 @@ module _ {D : Type 0} (state : D → State) (honest : D → Type 0) (moment : D 
     pub tied : IsShardTiedUp state honest store shards s old seen low
     pub within : IsWithin old.a old.b (HasOldNewOrShardPoint old) x y
 
-  -- of two devices a stop leaves the list, and nothing that can't be read, as where a coordinator over them is up
+  -- a stop leaves the list of two devices, and nothing that can't be read, as when a coordinator over them is up
   abbrev pub AreReadOfLog : List Entry → ℕ → List Attempt → D → D → Type 0
   AreReadOfLog seen low tried a b = Anywhere state honest a b seen low tried × AreReadable state honest a b
 
@@ -66,7 +66,7 @@ module _ {D : Type 0} (state : D → State) (honest : D → Type 0) (moment : D 
   IsLeftOfShard s seen low x y = Stands (λ a b. RowsAnywhere state honest shards s a b seen low) x y ⊎ (KeepsShard s seen low x y
       ⊎ Opens (λ a b. RowsAnywhere state honest shards s a b seen low) (λ a b. WasLeftOrOpened (shard_node store shards s) (state a) (state b)) x y)
 
-  -- the device is honest, and finds this content, or it with more behind a list that a closed gate ends
+  -- the device is honest, and finds this content, or it with more after a list that a closed gate ends
   pub record FindsLeft (d : D) (content : List ℕ) : Type 0 where
     pub is_honest : honest d
     pub found_in : IsFoundIn content (state d).seen
@@ -97,7 +97,7 @@ module _ {D : Type 0} (state : D → State) (honest : D → Type 0) (moment : D 
     pub coordinator : IsFoundOfLog first low (slice_index_or devices 0 any) (slice_index_or devices 1 any)
     pub each_shard : (k : ℕ) → k < shards → IsFoundOfShard k first low (slice_index_or devices (2 * k + 2) any) (slice_index_or devices (2 * k + 3) any)
 
-  -- Devices that were just opened, and find what a stop left of a store that is served, are at rest at its list, with more behind it or not, and at no lower
+  -- Devices that were just opened, and find what a stop left of a store that is served, are at rest at its list, with more after it or not, and at no lower
   -- horizon.
   abbrev pub WhatAStopLeavesIsAtRest : Type 0
   WhatAStopLeavesIsAtRest = (any : D) (first : List Entry) (low : ℕ) (devices : List D) → length devices ≡ 2 * (shards + 1) → All (IsJustOpened state honest) devices

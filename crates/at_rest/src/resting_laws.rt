@@ -5,21 +5,20 @@ ghost use Rattle.at_rest.specs.Stopped.{WhatAStopLeavesIsAtRest};
 
 use device::Device;
 
-/// Devices that were just opened, and of which one store rests, are at rest at its list, or at a beginning of it that has all that was kept: so what a store
-/// leaves that was run by steps may be served, whatever its coordinator has forgotten.
+/// Devices that were just opened, and over which one store rests, are at rest at its list, or at a beginning of it that has all that was kept: so what a
+/// store that was run by steps leaves may be served, whatever its coordinator has forgotten.
 pub fn what_rests_is_at_rest<D: Device>()
     ensures { WhatRestsIsAtRest D.state D.honest }
 {}
 
-/// Where devices rest at a list, as between two calls of a store that is served, those that find what a stop left of them, in files that are longer or not, are
-/// at rest at that list, or at one that goes on from it: so a server may be started again and again, behind checkpoints too.
+/// If devices rest at a list, as between two calls of a store that is served, those that find what a stop left of them, in files that are longer or not, are at
+/// rest at that list, or at one that extends it: so a server may be started again and again, after checkpoints too.
 pub fn what_is_found_is_at_rest<D: Device>()
     ensures { WhatIsFoundIsAtRest D.state D.honest }
 {}
 
-/// At whatever moment of whatever calls of its nodes a store that is served is stopped, devices that find what the stop left are at rest at its list, or at one
-/// that goes on from it: each node stands between two calls, or is within a flush, a checkpoint or an opening, and before the stop the coordinator's devices
-/// could be read.
+/// A store that is served may be stopped at any moment of any calls of its nodes: devices that find what the stop left are at rest at its list, or at one that
+/// extends it. Each node is between two calls, or is within a flush, a checkpoint or an opening, and before the stop the coordinator's devices could be read.
 pub fn what_a_stop_leaves_is_at_rest<D: Device>()
     ensures { (store shards : ℕ) → WhatAStopLeavesIsAtRest D.state D.honest D.moment D.left_since store shards }
 {}

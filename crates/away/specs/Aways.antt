@@ -1,4 +1,4 @@
--- What stands for a device that is elsewhere.
+-- The stand-in for a device that is elsewhere.
 use Rattle.std.specs.Prelude.{◌≡◌, ◌||◌, ℕ, Bool, true, false}
 use Rattle.away.specs.declared.away.Away.{Away}
 use Rattle.device.specs.Device.{State}
@@ -11,6 +11,6 @@ away_state s stopped failures = record s { stopped = s.stopped || stopped; failu
 abbrev pub lent_state : {D : Type 0} → (D → State) → Away D → State
 lent_state state d = away_state (state d.was.value) d.is_stopped d.failures
 
--- it is honest where the device was
+-- it is honest if the device was
 abbrev pub lent_honest : {D : Type 0} → (D → Type 0) → Away D → Type 0
 lent_honest honest d = honest d.was.value

@@ -1,4 +1,4 @@
--- What a node of a store that stands answers: by its own contract where it is up, or that it is away.
+-- What a node of a store that stands answers: by its own contract if it is up, or that it is away.
 use Rattle.std.proofs.Common.{◌≡◌, ◌⊎◌, inl, inr, ⊎_elim, ◌≤◌, ◌<◌, ℕ, Bool, true, false, true≢false, List, Ok, Err, Result, refl, sym, ◌∙◌, ap, subst, if◌then◌else◌}
 use Rattle.std.proofs.lemmas.Bool.{cases_Bool}
 use Rattle.call_turns.proofs.Words.{Answered, BatchValue, Collected, CoordinatorView, Down, Full, Future, HeadsValue, IsCalled, IsQuietCall, IsSeen, IsUp, Moment, NoMemory, NodeName, NodeView, Refusal, ShardIsSeen, ShardView, StandsOver, State, Stays, Store, behind_shard, coordinator, down, elsewhere, end_of, from_coordinator, from_shard, here, kept_of, left, memory, of_coordinator, of_shard, shard, stops, up}
@@ -91,7 +91,7 @@ module _ {D : Type 0} (state : D → State) (honest : D → Type 0) (moment : D 
   heads_told (views.refused e a b) is (Ok h) called so = absurd (let bad : Ok h ≡ Err e = so.1 in cc)
   heads_told (views.refused e a b) is (Err f) called so = away coordinator e f a b is called so.0 (let both : Err f ≡ Err e = so.1 in cc)
 
-  -- decisions behind a place: each refusal of a coordinator that is up
+  -- decisions after a place: each refusal of a coordinator that is up
   abbrev pub BatchRefused : ℕ → ℕ → Refusal → CoordinatorView D → Type 0
   BatchRefused from to e v = ((e ≡ Future) × (end_of (kept_of v) < to)) ⊎ (((e ≡ Collected) × (from < (kept_of v).horizon)) ⊎ (e ≡ NoMemory))
 

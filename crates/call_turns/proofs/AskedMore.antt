@@ -25,7 +25,7 @@ module _ {D : Type 0} (state : D → State) (honest : D → Type 0) (moment : D 
   abbrev Tells : ℕ → (ShardView D → Type 0) → Type 0
   Tells s P = FromShard state honest moment left_since counts_now only_now store shards old new now standing s P
 
-  -- a collection up to a horizon: a shard that is up refuses it only for want of room
+  -- a collection up to a horizon: a shard that is up refuses it only for lack of room
   abbrev pub LacksRoom : HeadsValue → Refusal → ShardView D → Type 0
   LacksRoom heads e v = (e ≡ Full) × (heads.horizon ≤ (memory v).learned) × HasNoRoom v.staged (Horizon heads.horizon)
 

@@ -1,4 +1,4 @@
--- A flow that is no write keeps the promise of a step where it is cancelled.
+-- A flow other than a write keeps the promise of a step if it is cancelled.
 use Rattle.std.proofs.Common.{◌≡◌, inr, ℕ, false, List, [], Option, None, refl, sym, ◌∙◌, ap, subst}
 use Rattle.std.proofs.Math.Path.{fun_ext}
 use Rattle.call_turns.proofs.Words.{AreSound, IfRunning, IsHorizonIn, Moment, NamesHorizon, NodeName, Running, Stands, State, ended, is_write, left, restart, shown_flow, stops}

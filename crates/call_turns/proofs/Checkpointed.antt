@@ -55,7 +55,7 @@ module _ {D : Type 0} (state : D → State) (honest : D → Type 0) (moment : D 
   ComesToFlush n (Ok x) P = P x
   ComesToFlush n (Err e) P = FailsToFlush n e
 
-  -- where there is no memory nothing has changed
+  -- if there is no memory nothing has changed
   lacks_memory : (n : NodeName) (was is : NodeView D) → IsCalled state honest moment left_since store shards n was is old new → is ≡ was → FailsToFlush n NoMemory
   lacks_memory n was is called same = (
     now.nodes,
@@ -63,7 +63,7 @@ module _ {D : Type 0} (state : D → State) (honest : D → Type 0) (moment : D 
     λ r ran is_then asked. (inl (subst TakesMemory (sym asked) tt), λ is. cc),
   )
 
-  -- nor behind the last generation
+  -- nor after the last generation
   is_last : (n : NodeName) (was is : NodeView D) → IsCalled state honest moment left_since store shards n was is old new → is ≡ was → (durable staged : List Record) → now.nodes.at n ≡ up durable staged
       → greatest_number ≤ generation_of durable → FailsToFlush n Full
   is_last n was is called same durable staged at last = (
@@ -119,7 +119,7 @@ module _ {D : Type 0} (state : D → State) (honest : D → Type 0) (moment : D 
           (cases_lt (generation_of v.durable) greatest_number);
     }
 
-    -- behind the last generation the same records are durable
+    -- after the last generation the same records are durable
     same_records : w ≡ v → w.staged ≡ [] → v.durable ++ v.staged ≡ w.durable
     same_records same none =
         let nothing : v.staged ≡ [] = sym (ap (λ (z : CoordinatorView D). z.staged) same) ∙ none in

@@ -26,7 +26,7 @@ use Rattle.turns.proofs.Rooms.{failed_points_have_cause}
 use Rattle.call_turns.specs.CallLaws.{FailedCallsHaveCause}
 use Rattle.call_turns.proofs.Standing.{runs_now, shard_is_up}
 
--- a node is shown to be down only where it is
+-- a node is shown to be down only if it is
 is_down_of : (b : Bool) (durable staged : List Record) → (if b then down else up durable staged) ≡ down → b ≡ true
 is_down_of true durable staged is = refl
 is_down_of false durable staged is = absurd cc
@@ -109,7 +109,7 @@ module _ {D : Type 0} (state : D → State) (honest : D → Type 0) (moment : D 
   stays_down : (v w : ShardView D) → Stays v w → w.is_down ≡ v.is_down
   stays_down v w is = ap (λ (x : ShardView D). x.is_down) is
 
-  -- where its flush answered Ok, it is up
+  -- if its flush answered Ok, it is up
   shard_flushed : (v w : ShardView D) (r : Result (Unit {0}) Refusal) → IsUp state honest v → w.is_down ≡ true → by_shard.FlushAnswers state honest moment left_since v r w
       → HasCause state honest (journal_of v) (journal_of w)
   shard_flushed v w (Ok done) is_up is a = let both : true ≡ false = sym is ∙ (a.ok is_up).up.up in absurd cc

@@ -38,7 +38,7 @@ module _ {D : Type 0} (state : D → State) (honest : D → Type 0) (moment : D 
       wider x y (inl is) = (durable, is, inl refl)
       wider x y (inr is) = (durable ++ staged, is, inr (stand_for_itself n (durable ++ staged)))
 
-  -- the devices of one node, behind its flush or a call that leaves records in place of its own
+  -- the devices of one node, after its flush or a call that replaces its records
   module _ (n : NodeName) (durable staged : List Record) (a b new_a new_b : D) (at : now.nodes.at n ≡ up durable staged) (was_devices : old.devices n ≡ (a, b)) (is_devices : new.devices n ≡ (new_a, new_b))
       (others : (k : NodeName) → k ≢ n → new.devices k ≡ old.devices k) (honest_a : honest new_a) (honest_b : honest new_b) (moments : LeavesEach moment left_since a b new_a new_b (HasOldOrSame n durable staged)) where
     durable_left : before state honest moment left_since store shards old new now standing n durable
@@ -143,7 +143,7 @@ module _ {D : Type 0} (state : D → State) (honest : D → Type 0) (moment : D 
     left_then : (rs : List Record) → after state honest moment left_since store shards old new now standing coordinator rs → WasOrSame state honest moment left_since store shards old new now standing coordinator rs
     left_then = flush_left coordinator v.durable v.staged v.a v.b w.a w.b seen.at called.before.devices called.after.devices called.devices honest_a honest_b moments
 
-    -- with nothing staged behind it
+    -- with nothing staged after it
     made : (next : Nodes) (m : Machine) → ShowsNodes next new → staged_of (next.at coordinator) ≡ [] → IsMade state honest moment left_since store shards old new now next m
     made next m shows none = record {
       sound = flush_sound coordinator v.durable v.staged v.a v.b w.a w.b seen.at called.before.devices called.after.devices called.devices honest_a honest_b moments;

@@ -1,4 +1,4 @@
--- A start where as many slots are taken as may be keeps the promise of a step: nothing changes, and Full is told.
+-- A start while as many slots are taken as may be keeps the promise of a step: nothing changes, and Full is told.
 use Rattle.std.proofs.Common.{◌≡◌, ◌≢◌, inl, inr, ◌≤◌, ℕ, List, [], ◌∷◌, length, Option, Some, None, refl, sym, ◌∙◌, subst, arith}
 use Rattle.std.proofs.Math.Path.{fun_ext}
 use Rattle.std.proofs.lemmas.Bool.{eqb-true}

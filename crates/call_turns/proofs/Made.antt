@@ -1,4 +1,4 @@
--- What is known of a store behind a call of one of its nodes.
+-- What is known of a store after a call of one of its nodes.
 use Rattle.std.proofs.Common.{◌≡◌, ◌≢◌, ◌⊎◌, inl, inr, ⊎_elim, ℕ, ◌≤◌, List, [], map, Result, Ok, Err, Some, Contains, refl, sym, ◌∙◌, ap, subst, arith}
 use Rattle.std.proofs.Math.Path.{fun_ext}
 use Rattle.std.proofs.lemmas.Option.{same_Some}
@@ -29,7 +29,7 @@ module _ {D : Type 0} (state : D → State) (honest : D → Type 0) (moment : D 
   abbrev since : NodeName → List Record → Type 0
   since = stops_since state honest moment left_since store shards old.devices new.devices
 
-  -- a call that is quiet, with what is known of the store behind it
+  -- a call that is quiet, with what is known of the store after it
   abbrev pub IsQuietlyMade : Nodes → Machine → Type 0
   IsQuietlyMade next m = IsQuietCall store shards before after now next m × IsMade state honest moment left_since store shards old new now next m
 
@@ -70,7 +70,7 @@ module _ {D : Type 0} (state : D → State) (honest : D → Type 0) (moment : D 
   pub was_itself : (k : NodeName) (rs : List Record) → leaves before now.nodes k rs → WasOrSame k rs
   was_itself k rs is = (rs, is, stand_for_itself k rs)
 
-  -- where a stop inside the call leaves such records of each node, all is well inside
+  -- if a stop inside the call leaves such records of each node, all is well inside
   abbrev pub IsWithin : Type 0
   IsWithin = (k : NodeName) (a b : List ℕ) → IsThere shards k → left_since (new.devices k).0 (moment (old.devices k).0) a → left_since (new.devices k).1 (moment (old.devices k).1) b
       → (rs : List Record) × (found a b ≡ Some rs) × WasOrSame k rs
@@ -113,15 +113,15 @@ module _ {D : Type 0} (state : D → State) (honest : D → Type 0) (moment : D 
     given = λ id given rs is. given_in id rs (at_node all coordinator rs (is, tt)) given;
   }
 
-  -- where a stop behind the call leaves such records of the coordinator, each id that was given out stays so
+  -- if a stop after the call leaves such records of the coordinator, each id that was given out stays so
   pub given_by : ((rs : List Record) → after coordinator rs → WasOrSame coordinator rs) → (id : WriteId) → IsGivenOut (before coordinator) id → IsGivenOut (after coordinator) id
   given_by all id given rs is = given_in id rs (all rs is) given
 
-  -- and so where no device has changed
+  -- and so if no device has changed
   pub still_given : new.devices ≡ old.devices → (id : WriteId) → IsGivenOut (before coordinator) id → IsGivenOut (after coordinator) id
   still_given same id given = subst (λ (f : NodeName → D × D). IsGivenOut (stops state honest store shards f coordinator) id) (sym same) given
 
-  -- of a node whose devices have not changed a stop inside the call leaves what it could leave before
+  -- if a node's devices have not changed, a stop inside the call leaves what it could leave before
   pub still_at : ((d : D) (c : List ℕ) → honest d → left_since d (moment d) c → left (state d) c) → (k : NodeName) → new.devices k ≡ old.devices k → (a b : List ℕ) → IsThere shards k
       → left_since (new.devices k).0 (moment (old.devices k).0) a → left_since (new.devices k).1 (moment (old.devices k).1) b → (rs : List Record) × (found a b ≡ Some rs) × WasOrSame k rs
   still_at only_now k same a b there in_a in_b =

@@ -1,4 +1,4 @@
--- The records of a checkpoint stand for what its node had, staged records among it.
+-- The records of a checkpoint stand for what its node had, staged records included.
 use Rattle.std.proofs.Common.{inr, ◌+◌, ◌-◌, ◌≤◌, ◌<◌, ℕ, List, ◌++◌, length-drop, refl, sym, subst, arith}
 use Rattle.call_turns.proofs.Words.{CoordinatorState, CoordinatorView, Identity, Record, ShardView, StandFor, coordinator, coordinator_state, end_of, memory, shard}
 use Rattle.records.specs.Checkpoints.{generation_of}

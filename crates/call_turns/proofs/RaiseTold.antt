@@ -89,7 +89,7 @@ module _ {D : Type 0} (state : D → State) (honest : D → Type 0) (moment : D 
   abbrev pub RaiseRefused : ℕ → Refusal → CoordinatorView D → Type 0
   RaiseRefused place e v = ((e ≡ Collected) × (place < (kept_of v).horizon)) ⊎ (((e ≡ Future) × (end_of (kept_of v) < place)) ⊎ ((e ≡ Full) × HasNoRoom v.staged (Horizon place)))
 
-  -- the coordinator took it: it is up behind it
+  -- the coordinator took it: it is up after it
   pub record TakesRaise (place : ℕ) : Type 0 where
     pub was : CoordinatorView D
     pub is : CoordinatorView D

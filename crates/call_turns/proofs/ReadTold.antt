@@ -24,7 +24,7 @@ module _ {D : Type 0} (state : D → State) (honest : D → Type 0) (moment : D 
   abbrev Tells : ℕ → (ShardView D → Type 0) → Type 0
   Tells s P = FromShard state honest moment left_since counts_now only_now store shards old new now standing s P
 
-  -- a shard that is up refuses a read at a place below its horizon, or for want of memory
+  -- a shard that is up refuses a read at a place below its horizon, or for lack of memory
   abbrev pub ReadRefused : ℕ → Refusal → ShardView D → Type 0
   ReadRefused place e v = ((e ≡ Collected) × (place < (memory v).horizon)) ⊎ (e ≡ NoMemory)
 

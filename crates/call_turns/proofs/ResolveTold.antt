@@ -23,7 +23,7 @@ module _ {D : Type 0} (state : D → State) (honest : D → Type 0) (moment : D 
   abbrev Still : Type 0
   Still = IsStill state honest moment left_since counts_now only_now store shards old new now standing
 
-  -- the writes in doubt at a shard: one that is up refuses only for want of memory
+  -- the writes in doubt at a shard: one that is up refuses only for lack of memory
   abbrev pub DoubtsCome : ℕ → Result (Vec WriteId) Refusal → Type 0
   DoubtsCome s (Ok ids) = Still
   DoubtsCome s (Err e) = FailsQuietly state honest moment left_since store shards old new now standing (shard s) e ⊎ (Still × (e ≡ NoMemory))

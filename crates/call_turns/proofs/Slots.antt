@@ -20,7 +20,7 @@ found_at slot (q ∷ rs) r is = ⊎_elim
 not_here : (k s : ℕ) → k ≢ s → (s == k) ≡ false
 not_here k s ne = ⊎_elim (λ same. absurd (ne (sym (eqb-true s k same)))) (λ other. other) (cases_Bool (s == k))
 
--- where it goes on, it is in its slot
+-- if it goes on, it is in its slot
 pub at_replaced : (later r : Running) (rs : List Running) → flow_at later.slot rs ≡ Some r → flow_at later.slot (replaced later rs) ≡ Some later
 at_replaced later r [] is = absurd cc
 at_replaced later r (q ∷ rs) is = ⊎_elim
@@ -46,7 +46,7 @@ elsewhere_replaced later (q ∷ rs) k ne = ⊎_elim
     ∙ ap (λ (o : Option Running). if q.slot == k then Some q else o) (elsewhere_replaced later rs k ne))
     (cases_Bool (q.slot == later.slot))
 
--- where it ends, its slot is free, since no two flows have one
+-- if it ends, its slot is free, since no two flows have one
 none_at : (slot : ℕ) (rs : List Running) → ((j : ℕ) (r : Running) → slice_get rs j ≡ Some r → r.slot ≡ slot → ⊥) → flow_at slot rs ≡ None
 none_at slot [] none = refl
 none_at slot (q ∷ rs) none = ⊎_elim

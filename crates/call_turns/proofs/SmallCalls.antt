@@ -1,4 +1,4 @@
--- Small calls and steps of a store: nodes, calls, beginnings and ends of flows that are, and some that are none.
+-- Small calls and steps of a store: nodes, calls, beginnings and ends of flows that are, and some that are not.
 use Rattle.std.specs.List.{AllByRecursion, IsDistinct}
 use Rattle.std.proofs.Common.{◌≡◌, ◌≢◌, ◌⊎◌, ⊎_elim, ◌≤◌, ◌<◌, ℕ, zero, suc, true, false, true≢false, List, [], ◌∷◌, length, Option, Some, None, Contains, refl, sym, ◌∙◌, ap, subst, arith}
 use Rattle.std.proofs.lemmas.Option.{none-some}
@@ -45,7 +45,7 @@ not_so_many (s ∷ t ∷ rest) many once each =
     let t_is = only_first t (each t (1, omega arith, refl)) in
     true≢false (sym (eq-eqb s t (s_is ∙ sym t_is)) ∙ once.0.0)
 
--- so many numbers, the greatest first
+-- this many numbers, the greatest first
 first : ℕ → List ℕ
 first zero = []
 first (suc n) = n ∷ first n
@@ -96,7 +96,7 @@ module _ {D : Type 0} (state : D → State) (honest : D → Type 0) (moment : D 
   other_devices : a ≢ b → IsNode 7 1 away coordinator (views.refused Down b a) → ⊥
   other_devices apart node = apart (ap (λ (p : D × D). p.0) node.devices)
 
-  -- no shard is the coordinator, none is that of another store, and one shard is no two
+  -- no shard is the coordinator, none is another store's, and one shard is not two
   shard_as_coordinator : IsNode 7 1 there coordinator (views.shard (up_shard a b 7)) → ⊥
   shard_as_coordinator node = node.named
 
@@ -106,7 +106,7 @@ module _ {D : Type 0} (state : D → State) (honest : D → Type 0) (moment : D 
   second_shard : (s : Store D) (v : NodeView D) → IsNode 7 1 s (shard 1) v → ⊥
   second_shard s v node = let is : 1 < 1 = node.there in omega (arith, is)
 
-  -- no node is shown as refused that is up, and the coordinator's memory is shown as it is
+  -- no node that is up is shown as refused, and the coordinator's memory is shown as it is
   refused_while_up : IsNode 7 1 away (shard 0) (views.shard (up_shard a b 7)) → ⊥
   refused_while_up node = let is : refused Down ≡ up [] [] = node.at in absurd cc
 
@@ -147,7 +147,7 @@ module _ {D : Type 0} (state : D → State) (honest : D → Type 0) (moment : D 
     others = none_elsewhere;
   }
 
-  -- no flow begins where another one runs
+  -- no flow begins if another one runs
   begun_in_a_taken_slot : (new : Store D) (asked : Asked) → IsBegunThere (record away { flows = first_slot }) new 0 asked → ⊥
   begun_in_a_taken_slot new asked begun = none-some _ (sym begun.free)
 
@@ -155,7 +155,7 @@ module _ {D : Type 0} (state : D → State) (honest : D → Type 0) (moment : D 
   begun_with_a_call : (slot : ℕ) (asked : Asked) → IsBegunThere away (record away { at = λ n. down; flows = first_slot }) slot asked → ⊥
   begun_with_a_call slot asked begun = down_is_not_refused (begun.store_stays.at coordinator)
 
-  -- where each slot is taken the store is full, and stays as it was
+  -- if each slot is taken the store is full, and stays as it was
   abbrev full : Store D
   full = record away { flows = λ t. Some raise }
 

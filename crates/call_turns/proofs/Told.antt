@@ -1,4 +1,4 @@
--- Laws of calls and of turns behind them, as contracts say them.
+-- Laws of calls and of turns after them, as contracts say them.
 use Rattle.std.proofs.Common.{◌≡◌, ◌≢◌, ℕ, false, List, [], ◌∷◌, Option, Some, None, All, refl, sym, ◌∙◌, subst}
 use Rattle.std.proofs.lemmas.Option.{same_Some}
 use Rattle.call_turns.proofs.Words.{Agrees, Answer, Asked, FlowView, HasItsCause, Holds, IsRight, IsRightVerdict, Machine, Moment, Nodes, Ran, Refusal, Running, ShowsFlow, State, Store, Unsure, answered, behind_call, ending, events_of, goes_on, left, refuses, stops, told_by, with_call}

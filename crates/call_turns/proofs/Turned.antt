@@ -1,4 +1,4 @@
--- A turn of a flow that is no write, behind a quiet call, keeps the promise of a step.
+-- A turn of a flow other than a write, after a quiet call, keeps the promise of a step.
 use Rattle.std.proofs.Common.{◌≡◌, ◌≢◌, inl, ⊎_elim, ◌==◌, ℕ, false, true≢false, List, [], ◌∷◌, ◌++◌, Option, Some, None, All, Contains, refl, sym, ◌∙◌, ap, subst}
 use Rattle.std.proofs.lemmas.Bool.{cases_Bool, eq-eqb, eqb-true}
 use Rattle.std.proofs.lemmas.Option.{same_Some}
@@ -13,7 +13,7 @@ use Rattle.call_turns.specs.StoreTurns.{SlotTurns}
 use Rattle.call_turns.proofs.Made.{FailsQuietly, IsQuietlyMade, after}
 use Rattle.call_turns.proofs.Slots.{at_ended, at_replaced, elsewhere_ended, elsewhere_replaced, found_at}
 
--- a flow that is no write has none
+-- a flow other than a write has none
 pub no_id : (shards : ℕ) (left : NodeName → List Record → Type 0) (now : Moment) (r : Running) (asked : Asked) (holds : Holds) → IsRight shards left now r asked holds → is_write asked ≡ false → id_of holds ≡ None
 no_id shards left now r (to_write changes conditions) (writing h) k plain = absurd (true≢false plain)
 no_id shards left now r (to_read fresh sets) (reading h) k plain = refl
@@ -107,7 +107,7 @@ module _ {D : Type 0} (state : D → State) (honest : D → Type 0) (moment : D 
         → Stands store shards (stops state honest store shards new.devices) (going_on now next m later) → Turns shards (NamesHorizon state honest store shards old now) now r told (going_on now next m later) → Runs told
     ran_going next m later v told made same goes shows stands taken = ran_to next m (replaced later now.running) now.told told made stands taken (shows_going later v same goes shows)
 
-    -- a flow that is no write, behind a quiet call
+    -- a flow other than a write, after a quiet call
     module _ (asked : Asked) (shows : ShowsFlow r f) (asks : f.asked ≡ Some asked) (no_write : is_write asked ≡ false) (next : Nodes) (m : Machine)
         (quiet : IsQuietlyMade state honest moment left_since store shards old new now standing next m) where
       abbrev left_after : NodeName → List Record → Type 0
@@ -122,7 +122,7 @@ module _ {D : Type 0} (state : D → State) (honest : D → Type 0) (moment : D 
       pub not_cancelled : r.is_cancelled ≡ false
       not_cancelled = (standing.stands.flows.quiet r runs is_no_write).1
 
-      -- what it held is right still, behind the call, once it has seen the machine there
+      -- what it held is still right after the call, once it has seen the machine there
       pub held_on : (h : Holds) → f.holds ≡ h → (holds : Holds) → IsRight shards left_after (behind_call now next m) (with_call r holds r.met m) asked h
       held_on h is holds = seen_on shards left_after (behind_call now next m) r holds m asked h (subst (λ (a : Asked). IsRight shards left_after (behind_call now next m) r a h) asked_is
           (subst (λ (x : Holds). IsRight shards left_after (behind_call now next m) r r.asked x) (sym shows.holds ∙ is) (quiet.0.stands.flows.held r runs)))

@@ -24,7 +24,7 @@ use Rattle.call_turns.specs.StoreTurns.{SlotTurns}
 -- Given what a device holds and whether it is honest, how often a stop may have come at it, what a stop since then may have left, and a store's id
 -- and number of shards
 module _ {D : Type 0} (state : D → State) (honest : D → Type 0) (moment : D → ℕ) (left_since : D → ℕ → List ℕ → Type 0) (store shards : ℕ) where
-  -- a call is quiet, over the devices of a store before it and behind it
+  -- a call is quiet, over the devices of a store before it and after it
   pub record IsQuietOver (old new : Store D) (now : Moment) (next : Nodes) (m : Machine) : Type 0 where
     pub quiet : IsQuietCall store shards (stops state honest store shards old.devices) (stops state honest store shards new.devices) now next m
     pub made : IsMade state honest moment left_since store shards old new now next m
@@ -34,7 +34,7 @@ module _ {D : Type 0} (state : D → State) (honest : D → Type 0) (moment : D 
   StillCallsAreQuiet = (old new : Store D) (now : Moment) (n : NodeName) (was is : NodeView D) → StandsOver state honest store shards old now
       → IsCalled state honest moment left_since store shards n was is old new → is ≡ was → IsQuietOver old new now now.nodes now.machine
 
-  -- A flow that runs in this slot and is no write, behind a quiet call: the store shows it so before the turn and behind it.
+  -- A running flow in this slot, other than a write, after a quiet call: the store shows it so before the turn and after it.
   pub record IsQuietTurn (old new : Store D) (now : Moment) (next : Nodes) (m : Machine) (slot : ℕ) (r : Running) (asked : Asked) (holds : Holds) (g : Option FlowView) : Type 0 where
     pub standing : StandsOver state honest store shards old now
     pub call : IsQuietOver old new now next m
@@ -63,7 +63,7 @@ module _ {D : Type 0} (state : D → State) (honest : D → Type 0) (moment : D 
   QuietTurnsRefuse = (old new : Store D) (now : Moment) (next : Nodes) (m : Machine) (slot : ℕ) (r : Running) (asked : Asked) (holds : Holds) (e : Refusal)
       → (taken : IsQuietTurn old new now next m slot r asked holds None) → HasItsCause shards taken.call.quiet.node now (ending now next m r []) r e → e ≢ Unsure → KeepsPromise old new now slot (refuses e ∷ [])
 
-  -- A node that goes down in a call has the cause: a device of it failed, or has no room for a batch more.
+  -- A node that goes down in a call has the cause: a device of it failed, or has no room for one more batch.
   abbrev pub FailedCallsHaveCause : Type 0
   FailedCallsHaveCause = (old new : Store D) (now : Moment) (n : NodeName) (was is : NodeView D) (call : NodeCall) (reply : Reply) → StandsOver state honest store shards old now
       → IsNode store shards old n was → IsNode store shards new n is → Answered state honest moment left_since was call reply is

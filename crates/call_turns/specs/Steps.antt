@@ -1,4 +1,4 @@
--- The steps of a run that call no node: a flow begins, and one that is no write is cancelled.
+-- The steps of a run that call no node: a flow begins, and one other than a write is cancelled.
 use Rattle.std.specs.Prelude.{◌≡◌, ◌≢◌, ◌≤◌, ◌<◌, ℕ, eqb, false, List, [], ◌∷◌, length, Some, None, Contains}
 use Rattle.std.specs.List.{IsDistinct}
 use Rattle.tuples.specs.Limits.{max_flows}
@@ -23,7 +23,7 @@ pub record IsUncalled {D : Type 0} (old new : Store D) : Type 0 where
 abbrev pub shown_flow : Asked → Holds → FlowView
 shown_flow asked holds = record { asked = Some asked; holds = holds; is_cancelled = false }
 
--- A flow that was asked this began in a slot that was free, where fewer than 1,024 slots were taken: no flow was in any other. It holds nothing yet.
+-- A flow that was asked this began in a slot that was free, if fewer than 1,024 slots were taken: no flow was in any other. It holds nothing yet.
 pub record IsBegunThere {D : Type 0} (old new : Store D) (slot : ℕ) (asked : Asked) : Type 0 where
   pub taken : List ℕ
   pub few : length taken < max_flows
@@ -42,7 +42,7 @@ pub record IsFullThere {D : Type 0} (old new : Store D) : Type 0 where
   pub store_stays : IsUncalled old new
   pub same : (t : ℕ) → new.flows t ≡ old.flows t
 
--- The flow in this slot, which is no write, was cancelled between two of its turns: it has left its slot.
+-- The flow in this slot, other than a write, was cancelled between two of its turns: it has left its slot.
 pub record IsDroppedThere {D : Type 0} (old new : Store D) (slot : ℕ) (asked : Asked) (holds : Holds) : Type 0 where
   pub no_write : is_write asked ≡ false
   pub store_stays : IsUncalled old new
@@ -51,17 +51,17 @@ pub record IsDroppedThere {D : Type 0} (old new : Store D) (slot : ℕ) (asked :
 -- Given what a device holds and whether it is honest, how often a stop may have come at it, what a stop since then may have left, and a store's id
 -- and number of shards
 module _ {D : Type 0} (state : D → State) (honest : D → Type 0) (moment : D → ℕ) (left_since : D → ℕ → List ℕ → Type 0) (store shards : ℕ) where
-  -- a flow of whatever kind, asked for what is in range, keeps the promise of a step where it begins, and tells its slot
+  -- a flow of whatever kind, asked for what is in range, keeps the promise of a step if it begins, and tells its slot
   abbrev pub FlowsStart : Type 0
   FlowsStart = (old new : Store D) (slot : ℕ) (asked : Asked) → IsAsked shards asked → IsBegunThere old new slot asked
       → (number : ℕ) → RunsOne state honest moment left_since store shards old number (start asked) (events_of number (began slot ∷ [])) new
 
-  -- where 1,024 flows run none begins, and that keeps it too: it tells Full
+  -- if 1,024 flows run none begins, and that keeps it too: it tells Full
   abbrev pub FullStoresRefuse : Type 0
   FullStoresRefuse = (old new : Store D) (asked : Asked) → IsAsked shards asked → IsFullThere old new
       → (number : ℕ) → RunsOne state honest moment left_since store shards old number (start asked) (events_of number (refuses Full ∷ [])) new
 
-  -- one that is no write keeps it where it is cancelled, and tells nothing
+  -- one other than a write keeps it if it is cancelled, and tells nothing
   abbrev pub CancelledFlowsEnd : Type 0
   CancelledFlowsEnd = (old new : Store D) (slot : ℕ) (asked : Asked) (holds : Holds) → IsDroppedThere old new slot asked holds
       → (number : ℕ) → RunsOne state honest moment left_since store shards old number (cancel slot) [] new

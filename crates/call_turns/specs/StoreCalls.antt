@@ -1,4 +1,4 @@
--- A call of one node of a store, as the store shows it before and behind.
+-- A call of one node of a store, as the store shows it before and after.
 use Rattle.std.specs.Prelude.{◌≡◌, ◌≢◌, ◌⊎◌, ℕ, List, Contains, if◌then◌else◌}
 use Rattle.tuples.specs.declared.entry.WriteId.{WriteId}
 use Rattle.decisions.specs.Standing.{IsGivenOut}
@@ -28,25 +28,25 @@ abbrev pub called : NodeCall → NodeName
 called (Coordinator call) = coordinator
 called (Shard s call) = shard s
 
--- what a node shows of its records: nothing where a device of it failed, or where its opening was refused
+-- what a node shows of its records: nothing if a device of it failed, or its opening was refused
 abbrev pub shown : {D : Type 0} → NodeView D → NodeState
 shown (views.coordinator v) = if v.is_down then down else up v.durable v.staged
 shown (views.shard v) = if v.is_down then down else up v.durable v.staged
 shown (views.refused e a b) = refused e
 
--- what lies in a coordinator's memory alone is what the store shows; of a coordinator whose opening was refused the store says it alone
+-- what lies in a coordinator's memory alone is what the store shows; if its opening was refused, only the store says it
 abbrev pub ShowsMemory : {D : Type 0} → NodeView D → Store D → Type 0
 ShowsMemory (views.coordinator v) s = (s.open_ids ≡ v.open_ids) × (s.given ≡ v.given)
 ShowsMemory (views.shard v) s = Unit {0}
 ShowsMemory (views.refused e a b) s = Unit {0}
 
--- it stays where no coordinator that was opened is called
+-- it stays if no coordinator that was opened is called
 abbrev pub KeepsMemory : {D : Type 0} → NodeView D → Store D → Store D → Type 0
 KeepsMemory (views.coordinator v) old new = Unit {0}
 KeepsMemory (views.shard v) old new = (new.open_ids ≡ old.open_ids) × (new.given ≡ old.given)
 KeepsMemory (views.refused e a b) old new = (new.open_ids ≡ old.open_ids) × (new.given ≡ old.given)
 
--- The store has this id and so many shards.
+-- The store has this id and this many shards.
 module _ (store shards : ℕ) where
   -- the node has this name; one whose opening was refused may have any
   abbrev pub IsNamed : {D : Type 0} → NodeView D → NodeName → Type 0
@@ -67,7 +67,7 @@ module _ (store shards : ℕ) where
 -- Given what a device holds and whether it is honest, how often a stop may have come at it, what a stop since then may have left, and a store's id
 -- and number of shards
 module _ {D : Type 0} (state : D → State) (honest : D → Type 0) (moment : D → ℕ) (left_since : D → ℕ → List ℕ → Type 0) (store shards : ℕ) where
-  -- A call of this node took it from one state to another, and changed no other node. Where it took the node down, a device has the cause.
+  -- A call of this node took it from one state to another, and changed no other node. If it took the node down, a device has the cause.
   pub record IsCalled (n : NodeName) (was is : NodeView D) (old new : Store D) : Type 0 where
     pub before : IsNode store shards old n was
     pub after : IsNode store shards new n is

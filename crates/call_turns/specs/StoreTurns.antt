@@ -5,7 +5,7 @@ use Rattle.stores.specs.Stores.{FlowView, Store}
 use Rattle.turns.specs.Promises.{RunsOne, events_of}
 use Rattle.turns.specs.Runs.{Told, turn}
 
--- The flow in a slot was shown so, and is shown so behind its turn, or has left the slot. No other slot has changed.
+-- The flow in a slot was shown so, and is shown so after its turn, or has left the slot. No other slot has changed.
 pub record SlotTurns {D : Type 0} (slot : ℕ) (was : FlowView) (is : Option FlowView) (old new : Store D) : Type 0 where
   pub before : old.flows slot ≡ Some was
   pub after : new.flows slot ≡ is

@@ -1,7 +1,7 @@
 //! A call of one node and the turn of a flow, as the store shows them: what the laws of each kind of flow share.
 //!
 //! Keeps: nothing at run time; each law is the contract of a function with an empty body.
-//! Callers rely on: a store behind a call is one of those for which the laws of turns speak.
+//! Callers rely on: a store after a call is one of those for which the laws of turns speak.
 //!
 //! Start at `specs/StoreCalls.antt`, a call of a node, and then at `specs/StoreTurns.antt`, the promise of a turn, and `specs/Steps.antt`, the steps that call no node.
 #![tactic(auto)]

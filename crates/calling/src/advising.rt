@@ -74,7 +74,9 @@ pub fn advice(kind: Kind, refusal: Refusal) -> &'static str {
             "it is unknown whether the write was made: read before you send it again"
         }
         Refusal::Down => "restart the server, then retry",
-        Refusal::NoMemory => "memory was refused: retry once there is memory",
+        Refusal::NoMemory => {
+            "memory was refused, or a server has no room for so large an answer: ask for less, or retry once there is memory"
+        }
         Refusal::Full => full_advice(kind),
         Refusal::Damaged => {
             "stop the server and restore a whole copy: no request can repair this"

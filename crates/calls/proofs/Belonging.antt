@@ -39,7 +39,7 @@ none_back intent back is = subst (IsIntentBack intent) (sym is) tt
 some_back : (intent : IntentValue) (back : Option IntentValue) → back ≡ Some intent → IsIntentBack intent back
 some_back intent back is = subst (IsIntentBack intent) (sym is) refl
 
--- where the opening was refused
+-- if the opening was refused
 refused_coordinator : (e : Refusal) (call : CoordinatorCall) (reply : coordinators.CoordinatorReply) → CoordinatorRefuses e call reply → IsCoordinatorReplyTo call reply
 refused_coordinator e (Begin write) (told.Begin r) h = tt
 refused_coordinator e Heads (told.Heads r) h = tt

@@ -26,7 +26,7 @@ use Rattle.calls.specs.Views.{NodeView, coordinator, shard, refused}
 use Rattle.calls.specs.CoordinatorAnswers as by_coordinator
 use Rattle.calls.specs.ShardAnswers as by_shard
 
--- what is owed to the coordinator of a store of so many shards
+-- what is owed to the coordinator of a store of this many shards
 abbrev pub MayAskCoordinator : ℕ → CoordinatorCall → Type 0
 MayAskCoordinator shards (Begin write) = Unit {0}
 MayAskCoordinator shards Heads = Unit {0}
@@ -39,7 +39,7 @@ MayAskCoordinator shards (Raise place settled) = HaveSettled shards place settle
 MayAskCoordinator shards Flush = Unit {0}
 MayAskCoordinator shards Checkpoint = Unit {0}
 
--- what is owed to a shard of so many
+-- what is owed to a shard of this many
 abbrev pub MayAskShard : ℕ → ℕ → ShardCall → Type 0
 MayAskShard shards s Learned = Unit {0}
 MayAskShard shards s (Learn batch) = Unit {0}
@@ -54,7 +54,7 @@ MayAskShard shards s (Collect heads) = Unit {0}
 MayAskShard shards s flush_shard = Unit {0}
 MayAskShard shards s checkpoint_shard = Unit {0}
 
--- a call that may be made in a store of so many shards, of the node that it names
+-- a call that may be made in a store of this many shards, of the node that it names
 abbrev pub MayBeMade : ℕ → NodeCall → Type 0
 MayBeMade shards (Coordinator call) = MayAskCoordinator shards call
 MayBeMade shards (Shard s call) = (s < shards) × MayAskShard shards s call
@@ -67,15 +67,15 @@ MayAsk (shard v) (Coordinator call) = ⊥
 MayAsk (shard v) (Shard s call) = (v.me.node ≡ s) × MayAskShard v.me.shards s call
 MayAsk (refused e a b) call = Unit {0}
 
--- there is no decision, by this refusal: the intent is spent, and the votes come back
+-- there is no decision, with this refusal: the intent is spent, and the votes come back
 abbrev pub IsNotDecided : Refusal → List VoteValue → NotDecided → Type 0
 IsNotDecided e votes back = (back.refusal ≡ e) × (back.intent ≡ None) × (back.votes.items ≡ votes)
 
--- the horizon is not raised, by this refusal
+-- the horizon is not raised, with this refusal
 abbrev pub IsNotRaised : Refusal → List SettledValue → NotRaised → Type 0
 IsNotRaised e settled back = (back.refusal ≡ e) × (back.settled.items ≡ settled)
 
--- What a node answers whose opening was refused: that refusal, with what was lent. What would have been spent is spent.
+-- The answer of a node whose opening was refused: that refusal, with what was lent. What would have been spent is spent.
 abbrev pub CoordinatorRefuses : Refusal → CoordinatorCall → coordinators.CoordinatorReply → Type 0
 CoordinatorRefuses e (Begin write) (told.Begin r) = r ≡ Err e
 CoordinatorRefuses e Heads (told.Heads r) = r ≡ Err e

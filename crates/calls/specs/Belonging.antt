@@ -28,12 +28,12 @@ abbrev pub IsIntentBack : IntentValue → Option IntentValue → Type 0
 IsIntentBack intent None = Unit {0}
 IsIntentBack intent (Some back) = back ≡ intent
 
--- where there is no decision, the votes come back, and the intent where it is not spent
+-- if there is no decision, the votes come back, and so does the intent if it is not spent
 abbrev pub GivesBallotBack : IntentValue → List VoteValue → Result DecidedValue NotDecided → Type 0
 GivesBallotBack intent votes (Ok decided) = Unit {0}
 GivesBallotBack intent votes (Err e) = IsIntentBack intent e.intent × (e.votes.items ≡ votes)
 
--- where the horizon is not raised, what the shards have settled comes back
+-- if the horizon is not raised, what the shards have settled comes back
 abbrev pub GivesSettledBack : List SettledValue → Result (Unit {0}) NotRaised → Type 0
 GivesSettledBack settled (Ok done) = Unit {0}
 GivesSettledBack settled (Err e) = e.settled.items ≡ settled
@@ -51,7 +51,7 @@ IsCoordinatorReplyTo Flush (told.Flush r) = Unit {0}
 IsCoordinatorReplyTo Checkpoint (told.Checkpoint r) = Unit {0}
 IsCoordinatorReplyTo call reply = ⊥
 
--- A vote is that of the shard, for the write of the ticket; a ticket that comes back is the one that was handed in.
+-- A vote is the shard's, for the write of the ticket; a ticket that comes back is the one that was handed in.
 abbrev pub GivesVote : ℕ → TicketValue → VoteReply → Type 0
 GivesVote s ticket (Yes vote) = (vote.id ≡ ticket.id) × (vote.shard ≡ s)
 GivesVote s ticket (votes_later back) = back ≡ ticket
@@ -73,26 +73,26 @@ IsShardReplyTo s flush_shard (told_by.Flush r) = Unit {0}
 IsShardReplyTo s checkpoint_shard (told_by.Checkpoint r) = Unit {0}
 IsShardReplyTo s call reply = ⊥
 
--- The reply is one to this call, and what was lent comes back as it was, also where the call was refused.
+-- The reply is one to this call, and what was lent comes back as it was, even if the call was refused.
 abbrev pub IsReplyTo : NodeCall → Reply → Type 0
 IsReplyTo (Coordinator call) (from_coordinator reply) = IsCoordinatorReplyTo call reply
 IsReplyTo (Shard s call) (from_shard reply) = IsShardReplyTo s call reply
 IsReplyTo call reply = ⊥
 
--- the node of this name in a store of so many shards; one whose opening was refused may be any
+-- the node of this name in a store of this many shards; one whose opening was refused may be any
 abbrev pub IsNodeOf : {D : Type 0} → ℕ → NodeName → NodeView D → Type 0
 IsNodeOf shards name_coordinator (coordinator v) = v.me.shards ≡ shards
 IsNodeOf shards (name_shard s) (shard v) = (v.me.node ≡ s) × (v.me.shards ≡ shards)
 IsNodeOf shards name (refused e a b) = Unit {0}
 IsNodeOf shards name node = ⊥
 
--- a shard is still that shard, and what is none has not become one
+-- a shard is still that shard, and no other node has become one
 abbrev pub IsSameShard : {D : Type 0} → NodeView D → NodeView D → Type 0
 IsSameShard (shard old) (shard new) = new.me ≡ old.me
 IsSameShard old (shard new) = ⊥
 IsSameShard old new = Unit {0}
 
--- what is owed to the node that a call names, in a store of so many shards
+-- what is owed to the node that a call names, in a store of this many shards
 abbrev pub IsOwed : ℕ → NodeCall → Type 0
 IsOwed shards (Coordinator call) = MayAskCoordinator shards call
 IsOwed shards (Shard s call) = MayAskShard shards s call

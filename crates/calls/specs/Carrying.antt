@@ -13,7 +13,7 @@ use Rattle.calls.specs.Views.{NodeView, coordinator, shard, refused}
 use Rattle.calls.specs.declared.carrying.Reach.{Reach}
 
 module _ {D : Type 0} (state : D → State) (honest : D → Type 0) where
-  -- a coordinator tells the place of its last durable decision, and its durable horizon
+  -- a coordinator answers the place of its last durable decision, and its durable horizon
   pub record CoordinatorReaches (v : CoordinatorView D) (r : Result Reach Refusal) : Type 0 where
     pub ok : IsRunning state honest v → IfOk r (λ reach. (reach.place ≡ end_of (kept_of v)) × (reach.horizon ≡ (kept_of v).horizon))
     pub down : IsErr r ↔ (v.is_down ≡ true)
@@ -32,7 +32,7 @@ module _ {D : Type 0} (state : D → State) (honest : D → Type 0) where
   Reaches (refused e a b) r = r ≡ Err e
 
 module _ {D : Type 0} (state : D → State) (honest : D → Type 0) (moment : D → ℕ) (left_since : D → ℕ → List ℕ → Type 0) where
-  -- What the coordinator knows is written behind the begin of a checkpoint of the coordinator of so many shards.
+  -- What the coordinator knows is written after the begin of a checkpoint of the coordinator of this many shards.
   pub record IsCarried (shards : ℕ) (v : CoordinatorView D) (old : BegunView D) (r : Result (Unit {0}) Refusal) (new : BegunView D) : Type 0 where
     pub still_honest : (honest old.a ↔ honest new.a) × (honest old.b ↔ honest new.b)
     pub ok : IsRunning state honest v → honest old.a → honest old.b → OnOk r (HasRecords (state new.a) (state new.b) (carried_checkpoint shards v))

@@ -34,7 +34,7 @@ module _ {D : Type 0} (state : D → State) (honest : D → Type 0) where
     pub memory : IsRunning state honest old → IsErrOf r NoMemory → All (IsInRange old) write.conditions × (HasNoId old → ⊥)
     pub err : IfErr r (λ e. (new ≡ old) × IsOneOf e (Down ∷ Future ∷ Collected ∷ Full ∷ NoMemory ∷ []))
 
-  -- a decision is staged at the next place, or what comes back
+  -- a decision is staged at the next place, or not, and then with what comes back
   pub record DecideAnswers (old : CoordinatorView D) (intent : IntentValue) (votes : List VoteValue) (r : Result DecidedValue NotDecided) (new : CoordinatorView D) : Type 0 where
     pub ok : IsRunning state honest old → IfOk r (λ d. DecidesAt old intent.write d new × IsRunning state honest new)
     pub down : IfErr r (λ e. (e.refusal ≡ Down) ↔ (old.is_down ≡ true))
@@ -68,7 +68,7 @@ module _ {D : Type 0} (state : D → State) (honest : D → Type 0) where
     pub down : IsErr r ↔ (v.is_down ≡ true)
     pub err : IfErr r (λ e. e ≡ Down)
 
-  -- the decisions behind a place
+  -- the decisions after a place
   pub record BatchAnswers (v : CoordinatorView D) (from to : ℕ) (r : Result BatchValue Refusal) : Type 0 where
     pub ok : IsRunning state honest v → IfOk r (BatchesAt v from to)
     pub down : IsErrOf r Down ↔ (v.is_down ≡ true)
@@ -105,7 +105,7 @@ module _ {D : Type 0} (state : D → State) (honest : D → Type 0) where
     pub cause : OnErr r ((old.is_down ≡ true) ⊎ HasCause state honest (coordinator_journal old) (coordinator_journal new))
     pub err : IfErr r (λ e. (e ≡ Down) × (new.is_down ≡ true))
 
-  -- as a flush, by a checkpoint in place of all records
+  -- as a flush, by a checkpoint that replaces all records
   pub record CheckpointAnswers (moment : D → ℕ) (left_since : D → ℕ → List ℕ → Type 0) (old : CoordinatorView D) (r : Result (Unit {0}) Refusal) (new : CoordinatorView D) : Type 0 where
     pub still_honest : (honest old.a ↔ honest new.a) × (honest old.b ↔ honest new.b)
     pub any_moment : IsRunning state honest old → LeavesEach moment left_since old.a old.b new.a new.b (HasOldNewOrPoint old)

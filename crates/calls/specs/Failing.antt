@@ -19,20 +19,20 @@ module _ {D : Type 0} (set : D → ℕ → Tear → Type 0) (state : D → State
     pub time_a : honest old_a → Elapses (moment old_a) (moment new_a) (left_since old_a) (left_since new_a) (left (state new_a))
     pub time_b : honest old_b → Elapses (moment old_b) (moment new_b) (left_since old_b) (left_since new_b) (left (state new_b))
 
-  -- a coordinator is as it was, but for the device
+  -- a coordinator is as it was, except for the device
   pub record CoordinatorIsSet (old new : CoordinatorView D) : Type 0 where
     pub devices : DevicesAreSet old.a old.b new.a new.b
     pub staged : (new.staged ≡ old.staged) × (new.is_down ≡ old.is_down) × (new.end ≡ old.end)
     pub keeps : KeepsOpen old new
     pub durable : honest old.a → honest old.b → new.durable ≡ old.durable
 
-  -- a shard is as it was, but for the device
+  -- a shard is as it was, except for the device
   pub record ShardIsSet (old new : ShardView D) : Type 0 where
     pub devices : DevicesAreSet old.a old.b new.a new.b
     pub staged : (new.staged ≡ old.staged) × (new.is_down ≡ old.is_down) × (new.end ≡ old.end) × (new.me ≡ old.me)
     pub durable : honest old.a → honest old.b → new.durable ≡ old.durable
 
-  -- a node is as it was, but for the device
+  -- a node is as it was, except for the device
   abbrev pub NodeIsSet : NodeView D → NodeView D → Type 0
   NodeIsSet (coordinator old) (coordinator new) = CoordinatorIsSet old new
   NodeIsSet (shard old) (shard new) = ShardIsSet old new

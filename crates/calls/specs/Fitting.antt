@@ -23,7 +23,7 @@ abbrev pub FitsItsTypes : NodeCall → Type 0
 FitsItsTypes (Coordinator call) = FitsCoordinator call
 FitsItsTypes (Shard s call) = FitsShard call
 
--- an intent that a call carries is one: of a write that is whole, under an id that can be given
+-- an intent that a call carries is one: of a whole write, under an id that can be given
 abbrev pub IsWholeAtCoordinator : CoordinatorCall → Type 0
 IsWholeAtCoordinator (Decide intent votes) = IsIntent intent.write
 IsWholeAtCoordinator call = Unit {0}

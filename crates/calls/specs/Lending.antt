@@ -17,7 +17,7 @@ use Rattle.calls.specs.declared.lending.Flying.{Flying}
 use Rattle.calls.specs.declared.lending.Flying.TheVariants.{Coordinator, Shard}
 
 module _ {D : Type 0} (state : D → State) (honest : D → Type 0) where
-  -- all that is staged flies, and a coordinator stays that is as it was, without its devices
+  -- all that is staged flies, and what stays is the coordinator as it was, without its devices
   pub record CoordinatorLends (v : CoordinatorView D) (u : CoordinatorView (Away D)) (flight : View D) (flying : OfCoordinator) : Type 0 where
     pub flight_is : flight ≡ coordinator_journal v
     pub stays : IsLentCoordinator state v u
@@ -26,7 +26,7 @@ module _ {D : Type 0} (state : D → State) (honest : D → Type 0) where
     pub told : v.is_down ≡ false → IsToldOf v.staged flying
     pub running : IsRunning state honest v → IsRunning (lent_state state) (lent_honest honest) u
 
-  -- the same of a shard
+  -- the same for a shard
   pub record ShardLends (v : ShardView D) (u : ShardView (Away D)) (flight : View D) (flying : OfShard) : Type 0 where
     pub flight_is : flight ≡ journal_of v
     pub stays : IsLentShard state v u
@@ -41,13 +41,13 @@ module _ {D : Type 0} (state : D → State) (honest : D → Type 0) where
   NodeLends (shard v) (shard u) flight (Shard flying) = ShardLends v u flight flying
   NodeLends v u flight flying = ⊥
 
-  -- What flew is the first of what is staged. Where all is up it is told as it was, and over honest devices the flight made it durable.
+  -- What flew is the beginning of what is staged. If all is up it is told as it was, and over honest devices the flight made it durable.
   pub record CoordinatorMayLand (v : CoordinatorView (Away D)) (flown : View D) (flying : OfCoordinator) : Type 0 where
     pub sent : Flies v.staged flying.sent
     pub told : v.is_down ≡ false → flown.is_down ≡ false → IsToldOf (take flying.sent.count v.staged) flying
     pub has_flown : v.is_down ≡ false → flown.is_down ≡ false → honest flown.a → honest flown.b → HasFlownOfCoordinator state honest v flown flying.sent.count
 
-  -- the same of a shard
+  -- the same for a shard
   pub record ShardMayLand (v : ShardView (Away D)) (flown : View D) (flying : OfShard) : Type 0 where
     pub sent : Flies v.staged flying.sent
     pub prepares : v.is_down ≡ false → flown.is_down ≡ false → flying.prepares ≡ length (prepared_ids (take flying.sent.count v.staged))
@@ -58,7 +58,7 @@ module _ {D : Type 0} (state : D → State) (honest : D → Type 0) where
   NodeMayLand (shard v) flown (Shard flying) = ShardMayLand v flown flying
   NodeMayLand v flown flying = ⊥
 
-  -- the node has its devices again, and is up where both were
+  -- the node has its devices again, and is up if both were
   pub record CoordinatorLands (v : CoordinatorView (Away D)) (flown : View D) (flying : OfCoordinator) (new : CoordinatorView D) : Type 0 where
     pub landed : new ≡ landed_coordinator v flown flying.sent
     pub running : v.is_down ≡ false → flown.is_down ≡ false → honest flown.a → honest flown.b → IsRunning state honest new

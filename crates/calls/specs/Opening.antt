@@ -13,7 +13,7 @@ use Rattle.coordinator.specs.Keeping.{HasNoRoomToOpen}
 use Rattle.shard.specs.Shards.{IsOpenedShard, LacksRoomToOpen, ShardView, WasLeftOrOpened}
 use Rattle.calls.specs.Views.{NodeView, coordinator, shard, refused}
 
--- the refusal that is answered to every call, where the opening was refused
+-- the refusal that answers every call, if the opening was refused
 abbrev pub refusal_of : {D : Type 0} → NodeView D → Option Refusal
 refusal_of (coordinator v) = None
 refusal_of (shard v) = None
@@ -23,7 +23,7 @@ refusal_of (refused e a b) = Some e
 abbrev pub HasStopped : {D : Type 0} → (D → State) → D → D → Type 0
 HasStopped state a b = ((state a).stopped ≡ true) ⊎ ((state b).stopped ≡ true)
 
--- with what an opening may be refused
+-- a refusal that an opening may have
 abbrev pub IsOpeningRefusal : Refusal → Type 0
 IsOpeningRefusal e = IsOneOf e (Down ∷ NoMemory ∷ Full ∷ Damaged ∷ [])
 

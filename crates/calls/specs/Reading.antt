@@ -14,7 +14,7 @@ is_read (Read place set) = true
 is_read (ReadForCheck place x u) = true
 is_read call = false
 
--- the reply to a read that was answered so; of other calls nothing is said
+-- the reply to a read that was answered so; it says nothing of other calls
 abbrev pub read_reply : ShardCall → Result ReadReply Refusal → ShardReply
 read_reply (Read place set) answer = told_by.Read set answer
 read_reply (ReadForCheck place x u) answer = told_by.ReadForCheck x u answer

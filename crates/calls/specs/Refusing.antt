@@ -29,13 +29,13 @@ abbrev pub not_raised_error : {T : Type 0} → Result T NotRaised → Option Ref
 not_raised_error (Ok x) = None
 not_raised_error (Err e) = Some e.refusal
 
--- a vote that is refused counts as its refusal
+-- a refused vote counts as its refusal
 abbrev pub vote_error : VoteReply → Option Refusal
 vote_error (Yes v) = None
 vote_error (votes_later t) = None
 vote_error (No e) = Some e
 
--- an outcome that is not known counts as Unsure
+-- an unknown outcome counts as Unsure
 abbrev pub outcome_error : outcomes.Outcome → Option Refusal
 outcome_error (Kept place) = None
 outcome_error (Later d) = None
@@ -72,7 +72,7 @@ abbrev pub refused_by : Reply → Option Refusal
 refused_by (Coordinator r) = coordinator_error r
 refused_by (Shard r) = shard_error r
 
--- of the marks by number, that of a refusal is set
+-- the mark for the number of the refusal is set
 abbrev pub HasTold : List Bool → Refusal → Type 0
 HasTold marks e = slice_get marks (number_of e) ≡ Some true
 

@@ -1,4 +1,4 @@
--- The versions that a node tells.
+-- The versions that a node reports.
 use denote.Ref.{Bor}
 use Rattle.std.specs.Prelude.{◌≡◌, ◌⊎◌, ◌↔◌, true, Result, Err, IfOk, IfErr, IsErrOf}
 use Rattle.std.specs.Global.{Vec}
@@ -15,7 +15,7 @@ use Rattle.shard.specs.Shards.{IsUp, ShardView, memory}
 use Rattle.calls.specs.Views.{NodeView, coordinator, shard, refused}
 
 module _ {D : Type 0} (state : D → State) (honest : D → Type 0) where
-  -- a shard tells what it has learned
+  -- a shard reports what it has learned
   pub record TellsRows (v : ShardView D) (r : Result (Vec Version) Refusal) : Type 0 where
     pub ok : IsUp state honest v → IfOk r (λ rows. AreRows (memory v).rows rows.items)
     pub down : IsErrOf r Down ↔ (v.is_down ≡ true)
@@ -34,7 +34,7 @@ module _ {D : Type 0} (state : D → State) (honest : D → Type 0) where
     pub down : IsErrOf r Down ↔ (v.is_down ≡ true)
     pub err : IfErr r (λ e. e ≡ Down)
 
-  -- the same of any node, as for the versions
+  -- the same for any node, as for the versions
   abbrev pub KnownOf : NodeView D → Result (Bor ShardState) Refusal → Type 0
   KnownOf (coordinator v) r = r ≡ Err BadRequest
   KnownOf (shard v) r = ShowsKnown v r

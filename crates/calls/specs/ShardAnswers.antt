@@ -116,7 +116,7 @@ module _ {D : Type 0} (state : D → State) (honest : D → Type 0) where
     pub cause : OnErr r ((old.is_down ≡ true) ⊎ HasCause state honest (journal_of old) (journal_of new))
     pub err : IfErr r (λ e. (e ≡ Down) × (new.is_down ≡ true))
 
-  -- as a flush, by a checkpoint in place of all records
+  -- as a flush, by a checkpoint that replaces all records
   pub record CheckpointAnswers (moment : D → ℕ) (left_since : D → ℕ → List ℕ → Type 0) (old : ShardView D) (r : Result (Unit {0}) Refusal) (new : ShardView D) : Type 0 where
     pub still_honest : (honest old.a ↔ honest new.a) × (honest old.b ↔ honest new.b)
     pub any_moment : IsUp state honest old → LeavesEach moment left_since old.a old.b new.a new.b (HasOldNewOrPoint old)

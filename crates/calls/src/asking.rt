@@ -15,6 +15,7 @@ use device::Device;
 use shard::{Shard, VoteReply};
 use std::alloc::Global;
 use tuples::Refusal;
+use versions::Budget;
 
 fn ask_coordinator<D: Device>(
     alloc: Global,
@@ -69,11 +70,13 @@ fn ask_shard<D: Device>(alloc: Global, shard: &mut Shard<D>, call: ShardCall) ->
         }
         ShardCall::InDoubt => ShardReply::InDoubt(shard.in_doubt(alloc)),
         ShardCall::Read(place, set) => {
-            let answer = shard.read(alloc, place, set.get());
+            let mut budget = Budget::unbounded();
+            let answer = shard.read(alloc, place, set.get(), &mut budget);
             ShardReply::Read(set, answer)
         }
         ShardCall::ReadForCheck(place, userset, user) => {
-            let answer = shard.read_for_check(alloc, place, userset.get(), user.get());
+            let mut budget = Budget::unbounded();
+            let answer = shard.read_for_check(alloc, place, userset.get(), user.get(), &mut budget);
             ShardReply::ReadForCheck(userset, user, answer)
         }
         ShardCall::Settle => ShardReply::Settle(shard.settle()),
@@ -86,7 +89,7 @@ fn ask_shard<D: Device>(alloc: Global, shard: &mut Shard<D>, call: ShardCall) ->
     }
 }
 
-// What a coordinator answers whose opening was refused: what would have been spent is spent.
+// The answer of a coordinator whose opening was refused: what would have been spent is spent.
 fn refuse_for_coordinator(refusal: Refusal, call: CoordinatorCall) -> CoordinatorReply
     ensures { CoordinatorRefuses refusal call result }
 {
@@ -131,7 +134,7 @@ fn spend(held: Option<Held>) {
     }
 }
 
-// What a shard answers whose opening was refused: what would have been spent is spent.
+// The answer of a shard whose opening was refused: what would have been spent is spent.
 fn refuse_for_shard(refusal: Refusal, call: ShardCall) -> ShardReply
     ensures { ShardRefuses refusal call result }
 {
@@ -159,7 +162,7 @@ fn refuse_for_shard(refusal: Refusal, call: ShardCall) -> ShardReply
     }
 }
 
-/// What is answered for a node that is not there: a refusal, as by one whose opening was refused.
+/// The answer for a node that is not there: a refusal, as if its opening had been refused.
 pub fn refuse(refusal: Refusal, call: NodeCall) -> Reply
     ensures refuses { Refuses refusal call result }
     ensures belongs { IsReplyTo call result }
@@ -170,7 +173,7 @@ pub fn refuse(refusal: Refusal, call: NodeCall) -> Reply
     }
 }
 
-// The refusal that the reply carries is told.
+// Notes the refusal that the reply carries.
 pub(crate) fn tell(reply: &Reply, told: &mut Told)
     ensures { Notes told.old reply.now told.new }
 {
@@ -199,8 +202,8 @@ fn make<D: Device>(alloc: Global, opened: &mut Opened<D>, call: NodeCall) -> Rep
     }
 }
 
-/// Makes the one call, of the node that it is for. What the call carries goes to the node, and what comes back lies in the reply. A node whose
-/// opening was refused answers that refusal: it spends what the call would have spent, and tells nothing of a decision.
+/// Makes the one call, of the node that it is for. What the call carries goes to the node, and what comes back is in the reply. A node whose
+/// opening was refused answers that refusal: it spends what the call would have spent, and says nothing of a decision.
 pub fn ask<D: Device>(node: &mut Node<D>, call: NodeCall, told: &mut Told) -> Reply
     requires { MayAsk node.old call }
     ensures answered { Answered D.state D.honest D.moment D.left_since node.old call result node.new }

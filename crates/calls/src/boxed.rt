@@ -4,7 +4,7 @@ ghost use Rattle.std.specs.Prelude.{◌≡◌, IfOk};
 use std::alloc::{AllocError, Global};
 use std::marker::Model;
 
-/// A value in memory of its own, so that a call which carries it is a few words to hand on. Contracts see the value.
+/// A value in memory of its own, so that a call which carries it is only a few words. Contracts see the value.
 #[derive(Drop)]
 pub struct Boxed<T> {
     value: Box<T>,
@@ -17,7 +17,7 @@ impl<T> Model for Boxed<T> {
 }
 
 impl<T> Boxed<T> {
-    /// The value, once there is memory for it; where there is none it is let go.
+    /// The value, once there is memory for it; if there is none it is dropped.
     pub fn new(alloc: Global, value: T) -> Result<Boxed<T>, AllocError>
     where
         T: Drop,
@@ -28,7 +28,7 @@ impl<T> Boxed<T> {
         })
     }
 
-    /// The value, lent.
+    /// The value, borrowed.
     pub fn get(&self) -> &T
         ensures { result.now ≡ self.now }
     {

@@ -10,7 +10,7 @@ use tuples::{Tupleset, User, Userset, Write, WriteId};
 pub enum CoordinatorCall {
     Begin(Write),
     Heads,
-    /// The decisions behind the first place, up to the second.
+    /// The decisions after the first place, up to the second.
     Batch(u64, u64),
     Decide(Intent, Vec<Vote>),
     Outcome(Decided),
@@ -43,7 +43,7 @@ pub enum ShardCall {
 #[must_use]
 pub enum NodeCall {
     Coordinator(CoordinatorCall),
-    /// Of the shard with this number.
+    /// For the shard with this number.
     Shard(u8, ShardCall),
 }
 

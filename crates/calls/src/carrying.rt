@@ -13,7 +13,7 @@ use tuples::{Refusal, Shards};
 /// How far a node reaches.
 #[derive(Clone, Copy, Debug, PartialEq, Eq)]
 pub struct Reach {
-    /// The place up to which a coordinator keeps all, or a shard has learned it.
+    /// The place up to which a coordinator keeps all, or a shard has learned.
     pub place: u64,
     /// The place below which nothing is read.
     pub horizon: u64,
@@ -40,7 +40,7 @@ fn reach_of_shard<D: Device>(shard: &Shard<D>) -> Result<Reach, Refusal>
 }
 
 impl<D: Device> Node<D> {
-    /// How far it reaches. It is refused with `Down`, and where its opening was refused as that.
+    /// How far it reaches. Refused with `Down`, or with the refusal of its opening.
     pub fn reach(&self) -> Result<Reach, Refusal>
         ensures { Reaches D.state D.honest self.now result }
     {
@@ -51,7 +51,7 @@ impl<D: Device> Node<D> {
         }
     }
 
-    /// Ends the first checkpoint of the coordinator of a store with the same id and so many shards, with what this coordinator knows. `Down` where a call of
+    /// Ends the first checkpoint of the coordinator of a store with the same id and this many shards, with what this coordinator knows. `Down` if a call of
     /// a device failed. A shard refuses with `BadRequest`, and a node whose opening was refused with that refusal.
     pub fn carry(&self, shards: Shards, begun: &mut Begun<D>) -> Result<(), Refusal>
         ensures { Carries D.state D.honest D.moment D.left_since shards self.now begun.old result begun.new }

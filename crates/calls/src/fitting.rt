@@ -1,4 +1,4 @@
-// What a call carries lies in the limits of its types: laws, each the contract of a function that does nothing.
+// What a call carries is within the limits of its types: laws, each the contract of a function that does nothing.
 ghost use Rattle.calls.specs.Fitting.{FitsCoordinator, FitsItsTypes, FitsShard, IsWhole, IsWholeAtCoordinator, IsWholeAtShard};
 
 use crate::{CoordinatorCall, NodeCall, ShardCall};
@@ -44,7 +44,7 @@ impl ShardCall {
 }
 
 impl NodeCall {
-    /// What it carries lies in the limits of its types. It does nothing: whoever makes a call by it may say so.
+    /// What it carries is within the limits of its types. Does nothing: whoever makes the call may say so by it.
     pub fn fits(&self)
         ensures fits { FitsItsTypes self.now }
         ensures whole { IsWhole self.now }

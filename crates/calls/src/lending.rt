@@ -9,7 +9,7 @@ use away::Away;
 use device::Device;
 use journal::{BatchRoom, Journal};
 
-/// What of a node's staged records flies.
+/// Which of a node's staged records fly.
 #[derive(Clone, Copy, Debug, PartialEq, Eq)]
 pub enum Flying {
     Coordinator(coordinator::Flying),
@@ -19,7 +19,7 @@ pub enum Flying {
 /// A node without its devices, and a flight: its journal with them.
 #[derive(Drop)]
 pub struct Lent<D: Device> {
-    /// May be asked for all but a flush, which would put it down.
+    /// May be asked for anything but a flush, which would put it down.
     pub node: Node<Away<D>>,
     /// To be flushed.
     pub flight: Journal<D>,
@@ -27,7 +27,7 @@ pub struct Lent<D: Device> {
 }
 
 impl<D: Device> Node<D> {
-    /// Lends the devices of an opened node. One whose opening was refused comes back as it was: it has nothing that could fly.
+    /// Lends the devices of an opened node. One whose opening was refused is returned as it was: it has nothing that could fly.
     pub fn lend(self, room: BatchRoom) -> Result<Lent<D>, (Node<D>, BatchRoom)>
         ensures ok { IfOk result (λ r. NodeLends D.state D.honest self r.node r.flight r.flying) }
         ensures refused { IsErr result ↔ IsSome (refusal_of self) }
@@ -76,7 +76,7 @@ impl<D: Device> Node<D> {
 }
 
 impl<D: Device> Node<Away<D>> {
-    /// The devices come back to the node that they were lent by, and the room for the next flight.
+    /// Gives the devices back to the node that lent them, and returns the room for the next flight.
     pub fn land(self, flown: Journal<D>, flying: Flying) -> (Node<D>, BatchRoom)
         requires { NodeMayLand D.state D.honest self flown flying }
         ensures { NodeLands D.state D.honest self flown flying result.0 }

@@ -1,4 +1,4 @@
-// A read of a shard, which leaves it as it is: several may look at it at once.
+// A read of a shard, which leaves it as it is: several may read it at once.
 ghost use Rattle.std.specs.Prelude.{◌≡◌, true, ℕ};
 ghost use Rattle.calls.specs.Asking.{Answered, MayAsk, ShardAnswers};
 ghost use Rattle.calls.specs.Reading.{is_read, read_reply};
@@ -13,9 +13,10 @@ use device::Device;
 use shard::{ReadReply, Shard};
 use std::alloc::Global;
 use tuples::Refusal;
+use versions::Budget;
 
 impl ShardCall {
-    /// The reply to a read that was answered so: what was lent comes back in it.
+    /// The reply to a read with this answer; it returns what was lent.
     pub fn into_reply(self, answer: Result<ReadReply, Refusal>) -> ShardReply
         requires { is_read self ≡ true }
         ensures { result ≡ read_reply self answer }
@@ -31,14 +32,19 @@ impl ShardCall {
 }
 
 // Reads of the shard what the call asks for.
-fn read<D: Device>(alloc: Global, shard: &Shard<D>, call: &ShardCall) -> Result<ReadReply, Refusal>
+fn read<D: Device>(
+    alloc: Global,
+    shard: &Shard<D>,
+    call: &ShardCall,
+    budget: &mut Budget,
+) -> Result<ReadReply, Refusal>
     requires { is_read call.now ≡ true }
     ensures { ShardAnswers D.state D.honest D.moment D.left_since shard.now call.now (read_reply call.now result) shard.now }
 {
     match call {
-        ShardCall::Read(place, set) => shard.read(alloc, *place, set.get()),
+        ShardCall::Read(place, set) => shard.read(alloc, *place, set.get(), budget),
         ShardCall::ReadForCheck(place, userset, user) => {
-            shard.read_for_check(alloc, *place, userset.get(), user.get())
+            shard.read_for_check(alloc, *place, userset.get(), user.get(), budget)
         }
         _ => unreachable!(),
     }
@@ -48,6 +54,7 @@ fn look_at<D: Device>(
     alloc: Global,
     opened: &Opened<D>,
     call: &ShardCall,
+    budget: &mut Budget,
 ) -> Result<ReadReply, Refusal>
     requires { is_read call.now ≡ true }
     ensures { (number : ℕ) → MayAsk (seen opened.now) (of_shard number call.now) → Answered D.state D.honest D.moment D.left_since (seen opened.now) (of_shard number call.now) (from_shard (read_reply call.now result)) (seen opened.now) }
@@ -55,13 +62,13 @@ fn look_at<D: Device>(
     match opened {
         // Nobody asks it for a shard's call.
         Opened::Coordinator(_) => Err(Refusal::Down),
-        Opened::Shard(shard) => read(alloc, shard, call),
+        Opened::Shard(shard) => read(alloc, shard, call, budget),
         Opened::Refused(refused) => Err(refused.refusal),
     }
 }
 
 /// Makes the one read, of a shard, which stays as it is. One whose opening was refused answers that refusal. The call is only looked at: `into_reply` makes
-/// the reply of it and of what is answered here.
+/// the reply from it and this answer. What is read is counted: if an answer would take more than it may, it is refused with `NoMemory`.
 pub fn look<D: Device>(
     node: &Node<D>,
     call: &ShardCall,
@@ -71,7 +78,7 @@ pub fn look<D: Device>(
     ensures answered { (number : ℕ) → MayAsk node.now (of_shard number call.now) → Answered D.state D.honest D.moment D.left_since node.now (of_shard number call.now) (from_shard (read_reply call.now result)) node.now }
     ensures told { Notes told.old (from_shard (read_reply call.now result)) told.new }
 {
-    let answer = look_at(node.alloc, &node.opened, call);
+    let answer = look_at(node.alloc, &node.opened, call, &mut told.budget);
     if let Err(refusal) = &answer {
         told.note(*refusal);
     }

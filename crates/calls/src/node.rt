@@ -1,4 +1,4 @@
-// A node: opened, or known by the refusal of its opening.
+// A node: opened, or with the refusal of its opening.
 ghost use Rattle.std.specs.Prelude.{◌≡◌, ◌<◌, ◌↔◌, IsTrue};
 ghost use Rattle.records.specs.Identity.{coordinator_number};
 ghost use Rattle.calls.specs.Belonging.{IsNodeOf};
@@ -26,7 +26,7 @@ pub(crate) enum Opened<D: Device> {
     Refused(Refused<D>),
 }
 
-/// A node of a store, as its last opening left it. One whose opening was refused answers that refusal to every call.
+/// A node of a store, as its last opening left it. If that was refused, it answers that refusal to every call.
 #[derive(Drop)]
 pub struct Node<D: Device> {
     pub(crate) alloc: Global,
@@ -86,7 +86,7 @@ impl<D: Device> Node<D> {
         }
     }
 
-    /// A node that is not opened, since one of its devices failed as it was revived: its opening counts as refused with `Down`.
+    /// A node that is not opened, since one of its devices failed when it was revived: its opening counts as refused with `Down`.
     pub fn stay_down(alloc: Global, a: D, b: D, me: Identity) -> Node<D>
         requires { HasStopped D.state a b }
         ensures { result ≡ refused Down a b }
@@ -102,7 +102,7 @@ impl<D: Device> Node<D> {
         }
     }
 
-    /// The refusal of its opening, where that was refused.
+    /// The refusal of its opening, if that was refused.
     pub fn refusal(&self) -> Option<Refusal>
         ensures { result ≡ refusal_of self.now }
     {
@@ -113,7 +113,7 @@ impl<D: Device> Node<D> {
         }
     }
 
-    /// Whether it is the node of this name in a store of so many shards. One whose opening was refused may be any.
+    /// Whether it is the node of this name in a store of this many shards. One whose opening was refused may be any.
     pub fn is_node(&self, shards: Shards, name: NodeName) -> bool
         ensures { IsTrue result ↔ IsNodeOf shards name self.now }
     {
@@ -143,8 +143,8 @@ impl<D: Device> Node<D> {
         }
     }
 
-    /// The versions that a shard has learned, by tuple and then by place. It is refused with `Down` or `NoMemory`, a coordinator with `BadRequest`, and one
-    /// whose opening was refused with that refusal.
+    /// The versions that a shard has learned, by tuple and then by place. Refused with `Down` or `NoMemory`; by a coordinator with `BadRequest`, and by a
+    /// node whose opening was refused with that refusal.
     pub fn rows(&self) -> Result<Vec<Version>, Refusal>
         ensures { RowsOf D.state D.honest self.now result }
     {
@@ -155,8 +155,8 @@ impl<D: Device> Node<D> {
         }
     }
 
-    /// What a shard has in memory, to be walked over: nothing is copied. It is refused with `Down`, a coordinator with `BadRequest`, and one whose opening
-    /// was refused with that refusal.
+    /// What a shard has in memory, to be walked over: nothing is copied. Refused with `Down`; by a coordinator with `BadRequest`, and by a node whose
+    /// opening was refused with that refusal.
     pub fn known(&self) -> Result<&Memory, Refusal>
         ensures { KnownOf D.state D.honest self.now result }
     {
@@ -167,7 +167,7 @@ impl<D: Device> Node<D> {
         }
     }
 
-    /// How many bytes its current bank has, up to the closed gate that ends the list and with it; 0 where its opening was refused.
+    /// How many bytes its current bank has, up to and including the closed gate that ends the list; 0 if its opening was refused.
     pub fn bank_len(&self) -> u64
         ensures { result ≡ bank_len_of self.now }
     {
@@ -178,7 +178,7 @@ impl<D: Device> Node<D> {
         }
     }
 
-    /// How many bytes a checkpoint of what it knows has; none where its opening was refused, or there is no memory to tell.
+    /// How many bytes a checkpoint of what it knows has; none if its opening was refused, or there is no memory to tell.
     pub fn checkpoint_len(&self) -> Option<u64> {
         match &self.opened {
             Opened::Coordinator(coordinator) => coordinator.checkpoint_len(self.alloc).ok(),
@@ -187,7 +187,7 @@ impl<D: Device> Node<D> {
         }
     }
 
-    /// Whether its disk has the room for a checkpoint of so many bytes, as far as that can be told.
+    /// Whether its disk has the room for a checkpoint of this many bytes, as far as is known.
     pub fn has_point_room(&self, len: u64) -> bool {
         match &self.opened {
             Opened::Coordinator(coordinator) => coordinator.has_point_room(len),

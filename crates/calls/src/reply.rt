@@ -23,7 +23,7 @@ pub enum CoordinatorReply {
     Checkpoint(Result<(), Refusal>),
 }
 
-/// The answer of a shard. What was only lent comes back first.
+/// The answer of a shard, after what was only lent.
 #[must_use]
 pub enum ShardReply {
     Learned(Result<u64, Refusal>),
@@ -47,7 +47,7 @@ pub enum Reply {
     Shard(ShardReply),
 }
 
-// The refusal of an answer that is one or a value.
+// The refusal of an answer, if it is one.
 fn error_of<T>(answer: &Result<T, Refusal>) -> Option<Refusal>
     ensures { result ≡ error answer.now }
 {

@@ -47,12 +47,12 @@ not_learned true e flush end on out goes ends = elsewhere end out (ends (inr ref
 not_learned false Full flush end on out goes ends = elsewhere flush on (goes refl refl)
 not_learned false e flush end on out goes ends = elsewhere end out (ends (inl (λ full. false≢true (ap is_full full))))
 
--- refused decisions are asked for anew, or end it
+-- refused decisions are asked for again, or end it
 not_fetched : (e : Refusal) (anew end : Progress) → is_there anew ≡ false → is_there end ≡ false → (e ≡ Collected → There ≡ anew) → ((e ≡ Collected → ⊥) → There ≡ end) → ⊥
 not_fetched Collected anew end on out goes ends = elsewhere anew on (goes refl)
 not_fetched e anew end on out goes ends = elsewhere end out (ends (λ collected. false≢true (ap is_collected collected)))
 
--- a catch-up is there only behind that answer
+-- a catch-up is there only after that answer
 pub there_so_far : (s to : ℕ) (batch : Option BatchValue) (awaited : Awaited) (reply : Reply) → catching.Fits awaited reply
     → catching.Gives (record { held = on_its_way s to batch; awaited = awaited }) reply There → AnswersSoFar to reply
 there_so_far s to batch awaited (from_coordinator (told.Batch (Ok b))) fits gives = elsewhere (Next (catching.to_hand_over (Some b) false (on_its_way s to batch))) refl gives
@@ -73,7 +73,7 @@ is_done v = elim v.ended as (λ _. Bool) [ None ↦ false | Some end ↦ elim en
 not_done : {X : Type 0} (other : LearnView) → is_done other ≡ false → over no_heads Done ≡ other → X
 not_done other on same = absurd (false≢true (sym (ap is_done same ∙ on)))
 
--- so does a learning end
+-- a learning ends so
 far_done : (s to : ℕ) (h : HeadsHeld) (awaited : Awaited) (reply : Reply) (progress : Progress) → catching.Fits awaited reply
     → catching.Gives (record { held = on_its_way s to h.batch; awaited = awaited }) reply progress → ProgressGives h progress (over no_heads Done) → AnswersSoFar to reply
 far_done s to h awaited reply There fits gives done = there_so_far s to h.batch awaited reply fits gives
@@ -95,7 +95,7 @@ done_at s h ask (from_shard reply) fits done = absurd done
 done_at s h (catch_up None) reply fits done = absurd fits
 done_at s h (catch_up (Some awaited)) reply fits done = by_heads s h.heads h.batch awaited reply fits done
 
--- a learning is done only where the shard has answered that it has learned up to the kept place of the heads
+-- a learning is done only if the shard has answered that it has learned up to the kept place of the heads
 pub learning_is_done : (s : ℕ) (h : HeadsHeld) (awaited : Option LearnStep) (reply : Reply) (after : LearnView) → MatchOption awaited ⊥ (λ step. Fits step reply)
     → MatchOption awaited ⊥ (λ step. Gives s h step reply after) → IsDone after → HasLearned h reply
 learning_is_done s h None reply after fits gives done = absurd fits

@@ -30,7 +30,7 @@ begun shards (cares.Resolve s) = Resolve (record { shard = s; doubts = []; seen 
 begun shards (cares.Raise place) = Raise (record { shards = shards; place = place; seen = ready nothing_raised raising.ask; next_name = Some names.Heads })
 begun shards (cares.Collect s) = Collect (record { shard = s; seen = ready no_heads collecting.ask })
 
--- the node that is cared for is there in a store of so many shards, and a raise is for that many
+-- the node that is cared for is there in a store of this many shards, and a raise is for that many
 abbrev pub IsThere : ℕ → CareFlow → Type 0
 IsThere shards (Flush v) = flushing.IsThere shards v.node
 IsThere shards (Learn v) = v.shard < shards
@@ -88,15 +88,15 @@ end_of (Resolve v) = v.seen.ended
 end_of (Raise v) = v.seen.ended
 end_of (Collect v) = v.seen.ended
 
--- which call it makes, the one that is told as its next, and what it is while that is out; the node that it asks may be asked that
+-- which call it makes, the one named as its next, and what it is while that is out; the node that it asks may be asked that
 abbrev pub AsksCare : CareFlow → NodeCall → CareFlow → Type 0
 AsksCare old call out = (next_name_of old ≡ Some (name_of call)) × NextCall old (Some call) out × ((shards : ℕ) → IsThere shards old → MayBeMade shards call)
 
--- What the reply makes of it: behind it none is out.
+-- What the reply makes of it; after it none is out.
 abbrev pub GivesCare : CareFlow → Reply → CareFlow → Type 0
 GivesCare out reply later = Answered out reply later × GoesOrEnds (has_next later) (end_of later)
 
--- what a resolution tells is of each write that was in doubt, in their order
+-- a resolution reports on each write that was in doubt, in their order
 abbrev pub TellsOfEach : CareFlow → Option CareEnd → Type 0
 TellsOfEach (Resolve v) (Some (all_resolved all)) = map id_of all.items ≡ v.doubts
 TellsOfEach flow end = Unit {0}

@@ -18,7 +18,7 @@ use Rattle.care_flow.specs.declared.end.CareEnd.TheVariants.{Refused}
 use Rattle.care_flow.specs.Ends.{ended_by}
 use Rattle.care_flow.specs.Views.{CareView, out, over, ready}
 
--- the heads are asked for; the shard collects by them, for the first time or again behind a flush; that flush; and the flush behind the collection
+-- the heads are asked for; the shard collects by them, for the first time or again after a flush; that flush; and the flush after the collection
 pub data CollectStep : Type 0 where
   ask : CollectStep
   collect : Bool → CollectStep
@@ -33,7 +33,7 @@ pub record CollectFlowValue : Type 0 where
   pub shard : ℕ
   pub seen : CollectView
 
--- what the call of a step is called
+-- the name of the call of a step
 abbrev pub name_of : CollectStep → CallName
 name_of ask = names.Heads
 name_of (collect again) = names.Collect
@@ -71,7 +71,7 @@ abbrev pub FlushGives : HeadsHeld → Result (Unit {0}) Refusal → CollectView 
 FlushGives h (Ok done) after = after ≡ ready h (collect true)
 FlushGives h (Err e) after = after ≡ over no_heads (Refused e)
 
--- What a reply makes of it: it is done with the flush behind the collection.
+-- What a reply makes of it: it is done with the flush after the collection.
 abbrev pub Gives : HeadsHeld → CollectStep → Reply → CollectView → Type 0
 Gives h ask (from_coordinator (told.Heads r)) after = HeadsGive h r after
 Gives h (collect again) (from_shard (told_by.Collect heads r)) after = CollectGives h again heads r after

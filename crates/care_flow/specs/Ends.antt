@@ -20,12 +20,12 @@ resolved_value (Committed id place) = committed id place
 resolved_value (Aborted id) = aborted id
 resolved_value (Undecided id) = undecided id
 
--- the write of which it was found
+-- the write that the finding is about
 abbrev pub id_of : Resolved → WriteId
 id_of (Committed id place) = id
 id_of (Aborted id) = id
 id_of (Undecided id) = id
 
--- the first write of which nothing was found, if there is one
+-- the first write without a finding, if there is one
 abbrev pub next_of : List WriteId → List Resolved → Option WriteId
 next_of doubts found = slice_get doubts (length found)

@@ -35,7 +35,7 @@ abbrev pub name_of : Bool → FlushStep → CallName
 name_of false flush = names.Flush
 name_of true flush = names.Checkpoint
 
--- the node is there in a store of so many shards
+-- the node is there in a store of this many shards
 abbrev pub IsThere : ℕ → NodeName → Type 0
 IsThere shards Coordinator = Unit {0}
 IsThere shards (Shard s) = s < shards

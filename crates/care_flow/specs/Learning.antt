@@ -50,7 +50,7 @@ abbrev pub HeadsGive : HeadsHeld → Result HeadsValue Refusal → LearnView →
 HeadsGive h (Ok heads) after = after ≡ ready (record h { heads = Some heads }) (catch_up None)
 HeadsGive h (Err e) after = after ≡ over no_heads (Refused e)
 
--- it is done where the shard is there
+-- it is done if the shard is there
 abbrev pub ProgressGives : HeadsHeld → progresses.Progress → LearnView → Type 0
 ProgressGives h (Next c) after = after ≡ ready (record h { batch = c.batch }) (catch_up None)
 ProgressGives h There after = after ≡ over no_heads Done

@@ -22,7 +22,7 @@ gathering g batch = record { heads = Some g.heads; settled = g.settled; batch = 
 abbrev pub gathered : GatheredValue → RaiseHolds
 gathered g = record { heads = Some g.heads; settled = g.settled; batch = None; is_raised = false }
 
--- the heads, while the coordinator raises the horizon, and behind that
+-- the heads, while the coordinator raises the horizon, and after that
 abbrev pub handed_in : HeadsValue → RaiseHolds
 handed_in heads = record nothing_raised { heads = Some heads }
 
@@ -107,7 +107,7 @@ abbrev pub name_in : Option Phase → Option CallName
 name_in None = None
 name_in (Some p) = name_of p
 
--- it is this shard's turn, in a store of so many, for a raise to the place
+-- it is this shard's turn, in a store of this many, for a raise to the place
 pub record IsRoundOf (shards place : ℕ) (g : GatheringValue) : Type 0 where
   pub shards_are : g.shards ≡ shards
   pub place_is : g.place ≡ place

@@ -25,9 +25,9 @@ use Rattle.care_flow.specs.Ends.{ended_by}
 use Rattle.care_flow.specs.CatchUps.{AsksToCatchUp, CatchUpGives, on_its_way}
 use Rattle.care_flow.specs.Views.{CareView, out, over, ready}
 
--- The heads are asked for, behind a flush of the coordinator where they do not reach the place; each shard is caught up, with the call of that which is out,
--- is flushed and tells what it has settled; the coordinator raises the horizon, for the first time or again behind a flush; that flush; and the flush
--- behind the raise.
+-- The heads are asked for, after a flush of the coordinator if they do not reach the place; each shard is caught up, with the call of that which is out, is
+-- flushed and answers what it has settled; the coordinator raises the horizon, for the first time or again after a flush; that flush; and the flush after
+-- the raise.
 pub data RaiseStep : Type 0 where
   ask : RaiseStep
   flush_to_ask : RaiseStep
@@ -41,7 +41,7 @@ pub data RaiseStep : Type 0 where
 abbrev pub RaiseView : Type 0
 RaiseView = CareView RaiseHolds RaiseStep
 
--- to this place, in a store of so many shards, with the name of its next call, if there is one
+-- to this place, in a store of this many shards, with the name of its next call, if there is one
 pub record RaiseFlowValue : Type 0 where
   pub shards : ℕ
   pub place : ℕ
@@ -49,7 +49,7 @@ pub record RaiseFlowValue : Type 0 where
   pub next_name : Option CallName
 
 -- Which call is made, with what is held. The horizon is raised only by what each shard has settled, at or above the place, and the
--- last flush comes only behind the raise.
+-- last flush comes only after the raise.
 abbrev pub Asks : ℕ → ℕ → RaiseHolds → RaiseStep → NodeCall → RaiseView → Type 0
 Asks shards place h ask call after = (call ≡ of_coordinator Heads) × (after ≡ out h ask)
 Asks shards place h flush_to_ask call after = (call ≡ of_coordinator Flush) × (after ≡ out h flush_to_ask)
@@ -78,12 +78,12 @@ Fits shards place step reply = ⊥
 abbrev pub EndsRefused : Refusal → RaiseView → Type 0
 EndsRefused e after = after ≡ over nothing_raised (Refused e)
 
--- it goes on to this shard, and behind the last one to the raise
+-- it goes on to this shard, and after the last one to the raise
 abbrev pub GoesRound : ℕ → RaiseHolds → ℕ → RaiseView → Type 0
 GoesRound shards h s after = (s < shards → after ≡ ready h (catch_up s None)) × (shards ≤ s → after ≡ ready h (raise false))
 
--- Heads that reach the place are held, where there is memory for what the shards will have settled. The coordinator is flushed where its log reaches the
--- place and is not kept so far, and no log reaches a place above its length.
+-- Heads that reach the place are held, if there is memory for what the shards will have settled. The coordinator is flushed if its log reaches the place
+-- and is not kept so far, and no log reaches a place above its length.
 pub record AnsweredHeads (shards place : ℕ) (h : RaiseHolds) (heads : HeadsValue) (after : RaiseView) : Type 0 where
   pub reaches : place ≤ heads.kept → GoesRound shards (record h { heads = Some heads }) 0 after ⊎ EndsRefused NoMemory after
   pub staged : heads.kept < place → place ≤ heads.length → after ≡ ready h flush_to_ask
@@ -93,18 +93,18 @@ abbrev pub HeadsGive : ℕ → ℕ → RaiseHolds → Result HeadsValue Refusal 
 HeadsGive shards place h (Ok heads) after = AnsweredHeads shards place h heads after
 HeadsGive shards place h (Err e) after = EndsRefused e after
 
--- a flush leads to what comes behind it
+-- a flush leads to what comes after it
 abbrev pub FlushGives : Result (Unit {0}) Refusal → RaiseView → RaiseView → Type 0
 FlushGives (Ok done) behind after = after ≡ behind
 FlushGives (Err e) behind after = EndsRefused e after
 
--- the shard is flushed where it is there
+-- the shard is flushed if it is there
 abbrev pub ProgressGives : RaiseHolds → ℕ → progresses.Progress → RaiseView → Type 0
 ProgressGives h s (Next c) after = after ≡ ready (record h { batch = c.batch }) (catch_up s None)
 ProgressGives h s There after = after ≡ ready (record h { batch = None }) (flush s)
 ProgressGives h s (is_refused e) after = EndsRefused e after
 
--- What the shard has settled is held where it reaches the place; where it does not, since the shard was opened again, or is not that shard's, the shard
+-- What the shard has settled is held if it reaches the place; if it does not, since the shard was opened again, or is not that shard's, the shard
 -- begins again.
 abbrev pub SettleGives : ℕ → ℕ → RaiseHolds → ℕ → Result SettledValue Refusal → RaiseView → Type 0
 SettleGives shards place h s (Ok v) after = (v.shard ≡ s → place ≤ v.place → GoesRound shards (record h { settled = h.settled ++ v ∷ [] }) (s + 1) after)
@@ -117,7 +117,7 @@ RaiseGives h again (Ok done) after = after ≡ ready (record h { is_raised = tru
 RaiseGives h again (Err back) after = (back.refusal ≡ Full → again ≡ false → after ≡ ready (record h { settled = back.settled.items }) flush_to_raise)
     × ((back.refusal ≢ Full) ⊎ (again ≡ true) → EndsRefused back.refusal after)
 
--- What a reply makes of it: it is done with the flush behind the raise.
+-- What a reply makes of it: it is done with the flush after the raise.
 abbrev pub Gives : ℕ → ℕ → RaiseHolds → RaiseStep → Reply → RaiseView → Type 0
 Gives shards place h ask (from_coordinator (told.Heads r)) after = HeadsGive shards place h r after
 Gives shards place h flush_to_ask (from_coordinator (told.Flush r)) after = FlushGives r (ready h ask) after

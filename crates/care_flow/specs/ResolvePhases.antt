@@ -87,7 +87,7 @@ name_in None = None
 name_in (Some p) = name_of p
 
 -- the coordinator is asked for the next write; the shard that is caught up is the flow's, and goes to the place of a write that
--- was found to be decided; and it is done where no write comes next
+-- was found to be decided; and it is done if no write comes next
 abbrev pub IsReadyOf : ℕ → Findings → Ready → Type 0
 IsReadyOf s f readies.AskDoubts = f.found.items ≡ []
 IsReadyOf s f (readies.Inquire id) = next_of f.doubts.items f.found.items ≡ Some id

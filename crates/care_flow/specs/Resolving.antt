@@ -79,11 +79,11 @@ EndsResolved h after = (all : Vec Resolved) × (map resolved_value all.items ≡
 abbrev pub EndsRefused : ResolveHolds → Refusal → ResolveView → Type 0
 EndsRefused h e after = after ≡ over h (Refused e)
 
--- It goes on to the first write for which the coordinator was not asked, and ends where it was asked for each.
+-- It continues with the first write for which the coordinator was not asked, and ends if it was asked for each.
 abbrev pub GoesThrough : List WriteId → ResolveHolds → ResolveView → Type 0
 GoesThrough doubts h after = MatchOption (slice_get doubts (length h.found)) (EndsResolved h after) (λ id. after ≡ ready h (inquire id))
 
--- the writes in doubt are known, where there is memory for what is found of them
+-- the writes in doubt are known, if there is memory for what is found of them
 abbrev pub DoubtsGive : ResolveHolds → Result (Vec WriteId) Refusal → List WriteId → ResolveView → Type 0
 DoubtsGive h (Ok ids) doubts after = ((doubts ≡ ids.items) × GoesThrough doubts h after) ⊎ EndsRefused h NoMemory after
 DoubtsGive h (Err e) doubts after = EndsRefused h e after
@@ -99,7 +99,7 @@ InquiryGives doubts h id (Ok (Abort verdict)) after = after ≡ ready (finding (
 InquiryGives doubts h id (Ok Undecided) after = GoesThrough doubts (finding (undecided id) None h) after
 InquiryGives doubts h id (Err e) after = EndsRefused h e after
 
--- it goes on to the next write where the shard is there
+-- it continues with the next write if the shard is there
 abbrev pub ProgressGives : List WriteId → ResolveHolds → ℕ → progresses.Progress → ResolveView → Type 0
 ProgressGives doubts h to (Next c) after = after ≡ ready (record h { batch = c.batch }) (catch_up to None)
 ProgressGives doubts h to There after = GoesThrough doubts (record h { batch = None }) after
@@ -110,7 +110,7 @@ abbrev pub DropGives : List WriteId → ResolveHolds → Result (Unit {0}) Refus
 DropGives doubts h (Ok done) after = GoesThrough doubts h after
 DropGives doubts h (Err e) after = EndsRefused h e after
 
--- What a reply makes of it; the ids in doubt are those that the shard told.
+-- What a reply makes of it; the ids in doubt are those that the shard answered.
 abbrev pub Gives : ℕ → List WriteId → ResolveHolds → ResolveStep → Reply → List WriteId → ResolveView → Type 0
 Gives s doubts h in_doubt (from_shard (told_by.InDoubt r)) ids after = DoubtsGive h r ids after
 Gives s doubts h (inquire id) (from_coordinator (told.Inquire r)) ids after = (ids ≡ doubts) × InquiryGives doubts h id r after

@@ -26,6 +26,6 @@ abbrev pub GoesOrEnds : Bool → Option CareEnd → Type 0
 GoesOrEnds true end = end ≡ None
 GoesOrEnds false end = (e : CareEnd) × (end ≡ Some e)
 
--- behind a reply it waits for no other
+-- after a reply it waits for no other
 abbrev pub IsBehind : {H S : Type 0} → CareView H S → Type 0
 IsBehind v = GoesOrEnds (is_some v.next) v.ended

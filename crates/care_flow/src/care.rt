@@ -16,7 +16,7 @@ use names::{CallName, Care};
 use std::alloc::Global;
 use tuples::Shards;
 
-/// A care on its way. It can be let go between two calls, and nothing is lost by that.
+/// A care on its way. It can be dropped between two calls, and nothing is lost by that.
 #[derive(Drop)]
 #[must_use]
 pub enum CareFlow {
@@ -29,7 +29,7 @@ pub enum CareFlow {
 }
 
 impl CareFlow {
-    /// In a store of so many shards. It takes no memory.
+    /// A flow for this care, in a store of this many shards; allocates nothing.
     pub fn new(alloc: Global, shards: Shards, care: Care) -> CareFlow
         ensures { result ≡ begun shards care }
     {
@@ -43,7 +43,7 @@ impl CareFlow {
         }
     }
 
-    /// The name of its next call. None where it has ended, and while a call is out.
+    /// The name of its next call. None if it has ended, or while a call is out.
     pub fn next_name(&self) -> Option<CallName>
         ensures name { result ≡ next_name_of self.now }
         ensures some { is_some result ≡ has_next self.now }
@@ -57,7 +57,7 @@ impl CareFlow {
         }
     }
 
-    /// Its next call, which has to be made, and the reply given. None where it has ended, and while a call is out.
+    /// Its next call, which has to be made, and the reply given. None if it has ended, or while a call is out.
     pub fn next_call(&mut self) -> Option<NodeCall>
         ensures call { NextCall self.old result self.new }
         ensures name { (option_map name_of result ≡ next_name_of self.old) × (next_name_of self.new ≡ None) }
@@ -87,7 +87,7 @@ impl CareFlow {
         }
     }
 
-    /// How it ended, where it has.
+    /// How it ended, if it has.
     pub fn finish(self) -> Option<CareEnd>
         ensures end { result ≡ end_of self }
         ensures each { TellsOfEach self result }

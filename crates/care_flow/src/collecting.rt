@@ -74,7 +74,7 @@ impl Model for CollectFlow {
     ghost invariant = { λ f. IsIn f.phase };
 }
 
-// Puts a phase where one was taken out.
+// Puts a phase back.
 fn put(place: &mut Option<Phase>, phase: Phase)
     ensures { place.new ≡ Some phase }
 {
@@ -167,7 +167,7 @@ fn give(out: Out, reply: Reply) -> Phase
 }
 
 impl CollectFlow {
-    /// Of this shard.
+    /// For this shard.
     pub fn new(shard: u8) -> CollectFlow
         ensures { result ≡ record { shard = shard; seen = ready no_heads ask } }
     {
@@ -177,7 +177,7 @@ impl CollectFlow {
         }
     }
 
-    /// The name of its next call. None where it has ended, and while a call is out.
+    /// The name of its next call. None if it has ended, or while a call is out.
     pub fn next_name(&self) -> Option<CallName>
         ensures { result ≡ option_map name_of self.now.seen.next }
     {
@@ -187,7 +187,7 @@ impl CollectFlow {
         }
     }
 
-    /// Its next call, which has to be made, and the reply given. None where it has ended, and while a call is out.
+    /// Its next call, which has to be made, and the reply given. None if it has ended, or while a call is out.
     pub fn next_call(&mut self) -> Option<NodeCall>
         ensures shard { self.new.shard ≡ self.old.shard }
         ensures call { NextCall self.old result self.new }
@@ -225,7 +225,7 @@ impl CollectFlow {
         put(&mut self.phase, give(out, reply));
     }
 
-    /// How it ended, where it has.
+    /// How it ended, if it has.
     pub fn finish(self) -> Option<CareEnd>
         ensures { result ≡ self.seen.ended }
     {

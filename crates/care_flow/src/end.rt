@@ -7,9 +7,9 @@ use tuples::{Refusal, WriteId};
 /// What became of a write that was in doubt.
 #[derive(Clone, Copy, Debug, PartialEq, Eq)]
 pub enum Resolved {
-    /// It is decided at this place, and the shard has learned so far.
+    /// It is decided at this place, and the shard has learned up to it.
     Committed(WriteId, u64),
-    /// No place above the horizon has it, now or later: it was aborted, or is forgotten below the horizon. It is in doubt no longer, or stays so where
+    /// No place above the horizon has it, now or later: it was aborted, or is forgotten below the horizon. It is in doubt no longer, or stays so if
     /// the shard's batch is full.
     Aborted(WriteId),
     /// It is open, or its decision is staged, so it stays in doubt.

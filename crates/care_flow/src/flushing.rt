@@ -9,7 +9,7 @@ use calls::{CoordinatorCall, CoordinatorReply, NodeCall, Reply, ShardCall, Shard
 use names::{CallName, NodeName};
 use std::marker::Model;
 
-/// Its one call comes next, or is out, with nothing that stays here.
+/// Its one call comes next, or is out; nothing stays here.
 #[derive(Drop)]
 pub(crate) enum Phase {
     Ready,
@@ -72,7 +72,7 @@ fn give(is_checkpoint: bool, node: NodeName, reply: Reply) -> CareEnd
 }
 
 impl FlushFlow {
-    /// Of this node, by a checkpoint or by what it has staged.
+    /// A flush of this node, by a checkpoint or of what it has staged.
     pub fn new(node: NodeName, is_checkpoint: bool) -> FlushFlow
         ensures { result ≡ record { node = node; is_checkpoint = is_checkpoint; seen = ready tt flush } }
     {
@@ -83,7 +83,7 @@ impl FlushFlow {
         }
     }
 
-    /// The name of its next call. None where it has ended, and while a call is out.
+    /// The name of its next call. None if it has ended, or while a call is out.
     pub fn next_name(&self) -> Option<CallName>
         ensures { result ≡ option_map (name_of self.now.is_checkpoint) self.now.seen.next }
     {
@@ -93,7 +93,7 @@ impl FlushFlow {
         }
     }
 
-    /// Its next call, which has to be made, and the reply given. None where it has ended, and while a call is out.
+    /// Its next call, which has to be made, and the reply given. None if it has ended, or while a call is out.
     pub fn next_call(&mut self) -> Option<NodeCall>
         ensures node { self.new.node ≡ self.old.node }
         ensures kind { self.new.is_checkpoint ≡ self.old.is_checkpoint }
@@ -118,7 +118,7 @@ impl FlushFlow {
         self.phase = Phase::Ended(give(self.is_checkpoint, self.node, reply));
     }
 
-    /// How it ended, where it has.
+    /// How it ended, if it has.
     pub fn finish(self) -> Option<CareEnd>
         ensures { result ≡ self.seen.ended }
     {

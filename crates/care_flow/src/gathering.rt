@@ -53,7 +53,7 @@ impl Model for Gathered {
 }
 
 impl Gathering {
-    /// No shard was asked.
+    /// No shard was asked yet.
     pub(crate) fn new(
         alloc: Global,
         shards: Shards,

@@ -71,7 +71,7 @@ impl Model for LearnFlow {
     ghost invariant = { λ f. IsIn f.shard f.phase };
 }
 
-// Puts a phase where one was taken out.
+// Puts a phase back.
 fn put(place: &mut Option<Phase>, phase: Phase)
     ensures { place.new ≡ Some phase }
 {
@@ -147,7 +147,7 @@ fn give(shard: u8, out: Out, reply: Reply) -> Phase
 }
 
 impl LearnFlow {
-    /// Of this shard.
+    /// For this shard.
     pub fn new(shard: u8) -> LearnFlow
         ensures { result ≡ record { shard = shard; seen = ready no_heads ask; next_name = Some names.Heads } }
     {
@@ -157,7 +157,7 @@ impl LearnFlow {
         }
     }
 
-    /// The name of its next call. None where it has ended, and while a call is out.
+    /// The name of its next call. None if it has ended, or while a call is out.
     pub fn next_name(&self) -> Option<CallName>
         ensures name { result ≡ self.now.next_name }
         ensures some { is_some result ≡ is_some self.now.seen.next }
@@ -168,7 +168,7 @@ impl LearnFlow {
         }
     }
 
-    /// Its next call, which has to be made, and the reply given. None where it has ended, and while a call is out.
+    /// Its next call, which has to be made, and the reply given. None if it has ended, or while a call is out.
     pub fn next_call(&mut self) -> Option<NodeCall>
         ensures shard { self.new.shard ≡ self.old.shard }
         ensures call { NextCall self.old result self.new }
@@ -191,7 +191,7 @@ impl LearnFlow {
         }
     }
 
-    /// What the reply to its call makes of it. It is done only where the shard has answered that it has learned up to the kept place.
+    /// What the reply to its call makes of it. It is done only if the shard has answered that it has learned up to the kept place.
     pub fn give(&mut self, reply: Reply)
         requires { Awaits self.old reply }
         ensures shard { self.new.shard ≡ self.old.shard }
@@ -208,7 +208,7 @@ impl LearnFlow {
         put(&mut self.phase, give(self.shard, out, reply));
     }
 
-    /// How it ended, where it has.
+    /// How it ended, if it has.
     pub fn finish(self) -> Option<CareEnd>
         ensures { result ≡ self.seen.ended }
     {

@@ -3,7 +3,7 @@
 //!
 //! Keeps: what it found of each write in doubt, and what each shard has settled, until it ends.
 //! Never: calls a node itself or waits; drops a write without a verdict on it; raises the horizon above what a shard has settled.
-//! Callers rely on: `next_call` asks only for what may be asked, and a care is done only behind the very answers that say so.
+//! Callers rely on: `next_call` asks only for what may be asked, and a care is done only after the very answers that say so.
 //!
 //! Start at `specs/Cares.antt`, any care, and then at `Learning.antt`, the shortest of them that holds something.
 #![tactic(auto)]

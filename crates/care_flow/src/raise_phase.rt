@@ -1,4 +1,4 @@
-// Where a raise is between two of its calls, and while one is out.
+// The phases of a raise: between two of its calls, and while one is out.
 ghost use Rattle.std.specs.Prelude.{◌≡◌};
 ghost use Rattle.care_flow.specs.RaisePhases.{name_ready};
 
@@ -28,7 +28,7 @@ pub(crate) enum Ready {
 }
 
 impl Ready {
-    /// What that call is called.
+    /// The name of that call.
     pub(crate) fn name(&self) -> CallName
         ensures { result ≡ name_ready self.now }
     {

@@ -34,7 +34,7 @@ fn begin(gathering: Gathering) -> Phase
     Phase::Ready(Ready::CatchUp(gathering, catch_up))
 }
 
-// The next shard's turn; behind the last one the horizon is raised.
+// The next shard's turn; after the last one the horizon is raised.
 fn go_round(gathering: Gathering) -> Phase
     ensures goes { GoesRound gathering.shards (held_by gathering None) gathering.next (view_of result) }
     ensures rests { IsBehind (view_of result) }
@@ -46,7 +46,7 @@ fn go_round(gathering: Gathering) -> Phase
     Phase::Ready(Ready::Raise(gathering.all(), false))
 }
 
-// No shard can settle a place above the log, so the flow refuses it by itself.
+// No shard can settle a place above the log, so the flow refuses it itself.
 fn answered(alloc: Global, shards: Shards, place: u64, answer: Result<Heads, Refusal>) -> Phase
     ensures gives { HeadsGive shards place nothing_raised answer (view_of result) }
     ensures rests { IsBehind (view_of result) }
@@ -84,7 +84,7 @@ fn caught_up(gathering: Gathering, call: CatchUpCall, reply: Reply) -> Phase
     }
 }
 
-// A flush behind which this call comes.
+// A flush after which this call comes.
 fn flushed(behind: Ready, answer: Result<(), Refusal>) -> Phase
     ensures gives { FlushGives answer (view_ready behind) (view_of result) }
     ensures rests { IsBehind (view_of result) }

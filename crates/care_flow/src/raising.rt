@@ -17,7 +17,7 @@ use std::alloc::Global;
 use std::marker::Model;
 use tuples::Shards;
 
-/// Raises the horizon to a place, once each shard has learned so far for good.
+/// Raises the horizon to a place, once each shard has learned up to it for good.
 #[derive(Drop)]
 #[must_use]
 pub struct RaiseFlow {
@@ -40,7 +40,7 @@ impl Model for RaiseFlow {
     ghost invariant = { λ f. IsIn f.shards f.place f.phase };
 }
 
-// Puts a phase where one was taken out.
+// Puts a phase back.
 fn put(place: &mut Option<Phase>, phase: Phase)
     ensures { place.new ≡ Some phase }
 {
@@ -48,7 +48,7 @@ fn put(place: &mut Option<Phase>, phase: Phase)
 }
 
 impl RaiseFlow {
-    /// To this place, in a store of so many shards.
+    /// A raise to this place, in a store of this many shards.
     pub fn new(alloc: Global, shards: Shards, place: u64) -> RaiseFlow
         ensures { result ≡ record { shards = shards; place = place; seen = ready nothing_raised ask; next_name = Some names.Heads } }
     {
@@ -60,7 +60,7 @@ impl RaiseFlow {
         }
     }
 
-    /// The name of its next call. None where it has ended, and while a call is out.
+    /// The name of its next call. None if it has ended, or while a call is out.
     pub fn next_name(&self) -> Option<CallName>
         ensures name { result ≡ self.now.next_name }
         ensures some { is_some result ≡ is_some self.now.seen.next }
@@ -71,7 +71,7 @@ impl RaiseFlow {
         }
     }
 
-    /// Its next call, which has to be made, and the reply given. None where it has ended, and while a call is out.
+    /// Its next call, which has to be made, and the reply given. None if it has ended, or while a call is out.
     pub fn next_call(&mut self) -> Option<NodeCall>
         ensures same { (self.new.shards ≡ self.old.shards) × (self.new.place ≡ self.old.place) }
         ensures call { NextCall self.old result self.new }
@@ -94,7 +94,7 @@ impl RaiseFlow {
         }
     }
 
-    /// What the reply to its call makes of it. It takes memory for what the shards have settled as soon as the heads reach the place.
+    /// What the reply to its call makes of it. It takes memory for what the shards have settled once the heads reach the place.
     pub fn give(&mut self, reply: Reply)
         requires { Awaits self.old reply }
         ensures same { (self.new.shards ≡ self.old.shards) × (self.new.place ≡ self.old.place) }
@@ -111,7 +111,7 @@ impl RaiseFlow {
         put(&mut self.phase, phase);
     }
 
-    /// How it ended, where it has.
+    /// How it ended, if it has.
     pub fn finish(self) -> Option<CareEnd>
         ensures { result ≡ self.seen.ended }
     {

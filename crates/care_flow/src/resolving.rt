@@ -88,7 +88,7 @@ impl Model for ResolveFlow {
     ghost invariant = { λ f. IsIn f.shard f.findings f.phase };
 }
 
-// Puts a phase where one was taken out.
+// Puts a phase back.
 fn put(place: &mut Option<Phase>, phase: Phase)
     ensures { place.new ≡ Some phase }
 {
@@ -127,7 +127,7 @@ fn refused(refusal: Refusal) -> Phase
     Phase::Ended(Err(refusal))
 }
 
-// It goes on to the next write.
+// It continues with the next write.
 fn go_on(shard: u8, findings: &Findings) -> Phase
     ensures goes { (doubts : List WriteId) (h : ResolveHolds) → doubts ≡ findings.now.doubts.items → h ≡ holding findings.now None None → GoesThrough doubts h (view_of findings.now result) }
     ensures rests { IsBehind (view_of findings.now result) }
@@ -246,7 +246,7 @@ fn give(alloc: Global, shard: u8, findings: &mut Findings, out: Out, reply: Repl
 }
 
 impl ResolveFlow {
-    /// Of this shard.
+    /// For this shard.
     pub fn new(alloc: Global, shard: u8) -> ResolveFlow
         ensures { result ≡ record { shard = shard; doubts = []; seen = ready nothing_found in_doubt; next_name = Some names.InDoubt } }
     {
@@ -258,7 +258,7 @@ impl ResolveFlow {
         }
     }
 
-    /// The name of its next call. None where it has ended, and while a call is out.
+    /// The name of its next call. None if it has ended, or while a call is out.
     pub fn next_name(&self) -> Option<CallName>
         ensures name { result ≡ self.now.next_name }
         ensures some { is_some result ≡ is_some self.now.seen.next }
@@ -269,7 +269,7 @@ impl ResolveFlow {
         }
     }
 
-    /// Its next call, which has to be made, and the reply given. None where it has ended, and while a call is out.
+    /// Its next call, which has to be made, and the reply given. None if it has ended, or while a call is out.
     pub fn next_call(&mut self) -> Option<NodeCall>
         ensures shard { self.new.shard ≡ self.old.shard }
         ensures doubts { self.new.doubts ≡ self.old.doubts }
@@ -293,7 +293,7 @@ impl ResolveFlow {
         }
     }
 
-    /// What the reply to its call makes of it. It takes memory for what it finds as soon as it knows of how many writes.
+    /// What the reply to its call makes of it. It takes memory for what it finds once it knows how many writes there are.
     pub fn give(&mut self, reply: Reply)
         requires { Awaits self.old reply }
         ensures shard { self.new.shard ≡ self.old.shard }
@@ -310,7 +310,7 @@ impl ResolveFlow {
         put(&mut self.phase, phase);
     }
 
-    /// How it ended, where it has. What it found is of each write that was in doubt, in their order.
+    /// How it ended, if it has. It has a finding for each write that was in doubt, in their order.
     pub fn finish(self) -> Option<CareEnd>
         ensures end { result ≡ self.seen.ended }
         ensures each { (all : _) → result ≡ Some (all_resolved all) → map id_of all.items ≡ self.doubts }

@@ -49,14 +49,14 @@ module _ {D : Type 0} (state : D → State) (honest : D → Type 0) (moment : D 
     held now standing r flow = subst (λ (a : Asked). IsRight shards (stops state honest store shards old.devices) now r a (raising h)) flow.asked_is
         (subst (λ (x : Holds). IsRight shards (stops state honest store shards old.devices) now r r.asked x) flow.holds_are (standing.stands.flows.held r flow.runs))
 
-    -- where the coordinator is away, or a shard
+    -- if the coordinator is away, or a shard
     coordinator_fails : (e : Refusal) → ((now : Moment) (standing : StandsOver state honest store shards old now) → FailsQuietly state honest moment left_since store shards old new now standing coordinator e) → Leads (over nothing_raised (Refused e))
     coordinator_fails e fails = fails_to state honest moment left_since store shards old new slot (to_raise place) refl RaiseStep raising h nothing_raised coordinator e calls_coordinator fails
 
     shard_fails : (s : ℕ) (e : Refusal) → s < shards → ((now : Moment) (standing : StandsOver state honest store shards old now) → FailsQuietly state honest moment left_since store shards old new now standing (shard s) e) → Leads (over nothing_raised (Refused e))
     shard_fails s e there fails = fails_to state honest moment left_since store shards old new slot (to_raise place) refl RaiseStep raising h nothing_raised (shard s) e (there, tt) fails
 
-    -- it goes on to a shard, or behind the last one to the raise, with what it then holds
+    -- it goes on to a shard, or after the last one to the raise, with what it then holds
     goes_round : (k : RaiseHolds) (s : ℕ) (after : RaiseView) → ((step : RaiseStep) → Leads (ready k step)) → GoesRound shards k s after → Leads after
     goes_round k s after leads gives = ⊎_elim
         (λ (lt : s < shards). subst Leads (sym (gives.0 lt)) (leads (catch_up s None)))
@@ -117,7 +117,7 @@ module _ {D : Type 0} (state : D → State) (honest : D → Type 0) (moment : D 
               },
             ))
 
-    -- a flush leads to what comes behind it, with what is held
+    -- a flush leads to what comes after it, with what is held
     by_coordinator_flush : (step : RaiseStep) (was is : NodeView D) (r : Result (Unit {0}) Refusal) (after : RaiseView) → IsCalled state honest moment left_since store shards coordinator was is old new
         → Answered state honest moment left_since was (of_coordinator coordinator_calls.Flush) (from_coordinator (told.Flush r)) is → FlushGives r (ready h step) after → Leads after
     by_coordinator_flush step was is (Err e) after c so gives = subst Leads (sym gives) (coordinator_fails e (λ now standing. coordinator_flushed state honest moment left_since counts_now only_now store shards old new now standing was is (Err e) c so))
@@ -132,7 +132,7 @@ module _ {D : Type 0} (state : D → State) (honest : D → Type 0) (moment : D 
         let it = shard_flushed state honest moment left_since counts_now only_now store shards old new now standing s was is (Ok x) c so in
         (it.0, now.machine, it.1, λ k. k)))
 
-    -- the last one is done, where the coordinator took the raise
+    -- the last one is done, if the coordinator took the raise
     by_last_flush : h.is_raised ≡ true → (was is : NodeView D) (r : Result (Unit {0}) Refusal) (after : RaiseView) → IsCalled state honest moment left_since store shards coordinator was is old new
         → Answered state honest moment left_since was (of_coordinator coordinator_calls.Flush) (from_coordinator (told.Flush r)) is → after ≡ over nothing_raised (ended_by r) → Leads after
     by_last_flush raised was is (Err e) after c so gives = subst Leads (sym gives) (coordinator_fails e (λ now standing. coordinator_flushed state honest moment left_since counts_now only_now store shards old new now standing was is (Err e) c so))

@@ -43,7 +43,7 @@ module _ {D : Type 0} (state : D → State) (honest : D → Type 0) (moment : D 
     abbrev Is : Moment → Running → Type 0
     Is = IsFlow state honest moment left_since store shards old new slot (to_resolve s) refl ResolveStep resolving h
 
-    -- at each moment for which the store stands, the call was quiet, and then this is right behind it
+    -- at each moment for which the store stands, the call was quiet, and then this is right after it
     abbrev RightBehind : ResolveHolds → Type 0
     RightBehind k = Quietly state honest moment left_since store shards old new slot (to_resolve s) refl ResolveStep resolving h (λ now standing r next m.
         IsRightResolve shards after (behind_call now next m) h → IsRightResolve shards after (behind_call now next m) k)

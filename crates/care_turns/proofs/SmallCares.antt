@@ -1,4 +1,5 @@
--- Small turns of a care: the flush of a coordinator whose opening was refused makes its one call, and ends with that refusal. And turns of it that are none.
+-- Small turns of a care: the flush of a coordinator whose opening was refused makes its one call, and ends with that refusal. And some that are not turns of
+-- it.
 use Rattle.std.proofs.Common.{◌≡◌, ◌≢◌, ◌<◌, ℕ, zero, suc, Bool, true, false, List, [], Option, Err, Some, None, if◌then◌else◌, refl, sym, ◌∙◌, ap, subst, arith}
 use Rattle.std.proofs.lemmas.Option.{same_Some}
 use Rattle.refusal.specs.declared.refusal.Refusal.TheVariants.{Down}
@@ -16,7 +17,7 @@ use Rattle.turns.specs.Runs.{refuses}
 use Rattle.call_turns.specs.StoreCalls.{IsNode}
 use Rattle.care_turns.specs.CareTurns.{CareTurns}
 
--- the flush of the coordinator before its call, with the call out, and behind its end
+-- the flush of the coordinator before its call, with the call out, and after its end
 abbrev fresh : CareFlow
 fresh = Flush (record { node = named.Coordinator; is_checkpoint = false; seen = ready tt flush })
 
@@ -119,7 +120,7 @@ module _ {D : Type 0} (state : D → State) (honest : D → Type 0) (moment : D 
       let is : Done ≡ Refused Down = ends_refused Done turn.call turn.out turn.was turn.is turn.reply turn.asks turn.gives turn.called_is.before turn.answers in
       absurd cc
 
-  -- behind its end it does not stay in its slot
+  -- after its end it does not stay in its slot
   kept_in_its_slot : CareTurns state honest moment left_since 7 1 before before 0 fresh (ended_so (Refused Down)) → ⊥
   kept_in_its_slot turn = some_is_none turn.turns.after
     where

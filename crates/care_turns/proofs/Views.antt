@@ -13,7 +13,7 @@ use Rattle.call_turns.proofs.Turned.{goes, held_on, ran_ending, ran_going, refus
 
 module _ {D : Type 0} (state : D → State) (honest : D → Type 0) (moment : D → ℕ) (left_since : D → ℕ → List ℕ → Type 0) (store shards : ℕ) (old new : Store D) (slot : ℕ)
     (asked : Asked) (no_write : is_write asked ≡ false) {H : Type 0} (S : Type 0) (hold : H → Holds) (h : H) where
-  -- in a slot behind its turn, or out of it, the care tells this, and the promise of a step is kept
+  -- in a slot after its turn, or out of it, the care tells this, and the promise of a step is kept
   abbrev pub LeadsTo : CareView H S → Type 0
   LeadsTo a = SlotTurns slot (shown_care asked (hold h)) (in_slot (shown_care asked (hold a.holds)) a.ended) old new → TurnRuns state honest moment left_since store shards old slot (tells a.ended ∷ []) new
 
@@ -53,7 +53,7 @@ module _ {D : Type 0} (state : D → State) (honest : D → Type 0) (moment : D 
       let it = quietly now standing flow.0 (record { runs = runs state honest moment left_since store shards old new now standing number slot f None turns flow.0 flow.1; asked_is = sym (flow.2.asked asked refl); holds_are = sym flow.2.holds }) in
       refused_by state honest moment left_since store shards old new now standing number slot f None turns flow.0 flow.1 asked flow.2 refl no_write it.0 it.1 it.2 e refl it.3
 
-  -- as where a node is away, or its flush failed
+  -- as when a node is away, or its flush failed
   pub fails_to : (nothing : H) (n : NodeName) (e : Refusal) → Calls shards asked (hold h) n → ((now : Moment) (standing : StandsOver state honest store shards old now) → FailsQuietly state honest moment left_since store shards old new now standing n e)
       → LeadsTo (over nothing (Refused e))
   fails_to nothing n e calls fails turns number now standing =
@@ -69,7 +69,7 @@ module _ {D : Type 0} (state : D → State) (honest : D → Type 0) (moment : D 
       let it = quietly now standing flow.0 (record { runs = runs state honest moment left_since store shards old new now standing number slot f None turns flow.0 flow.1; asked_is = sym (flow.2.asked asked refl); holds_are = sym flow.2.holds }) in
       answers state honest moment left_since store shards old new now standing number slot f None turns flow.0 flow.1 asked flow.2 refl no_write it.0 it.1 it.2 done refl it.3 (All-nil _)
 
-  -- it goes on, or is done, where the laws say the whole turn
+  -- it goes on, or is done, if the laws say the whole turn
   pub goes_by : (k : H) (step : S) → ((now : Moment) (standing : StandsOver state honest store shards old now) (r : Running) → IsFlow now r → (next : Nodes) × (m : Machine)
       × IsMade state honest moment left_since store shards old new now next m
       × Stands store shards (stops state honest store shards new.devices) (going_on now next m (with_call r (hold k) r.met m))

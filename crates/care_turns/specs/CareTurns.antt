@@ -1,4 +1,4 @@
--- A turn of a care of the nodes: its next call is made, and the care makes of the reply what it makes.
+-- A turn of a care of the nodes: its next call is made, and the care takes the reply.
 use Rattle.std.specs.Prelude.{ℕ, List, [], ◌∷◌, Option, Some, None, map, false}
 use Rattle.device.specs.Device.{State}
 use Rattle.calls.specs.Asking as asking
@@ -23,7 +23,7 @@ use Rattle.turns.specs.Runs.{Told, answered, goes_on, refuses}
 use Rattle.call_turns.specs.StoreCalls.{FitsItsTypes, IsCalled, called, name_of}
 use Rattle.call_turns.specs.StoreTurns.{SlotTurns, TurnRuns}
 
--- a care that is asked this and holds that, as a store shows it: a care that is cancelled is gone at once
+-- a care that is asked this and holds that, as a store shows it: a cancelled care is gone at once
 abbrev pub shown_care : Asked → Holds → FlowView
 shown_care asked holds = record { asked = Some asked; holds = holds; is_cancelled = false }
 
@@ -34,7 +34,7 @@ shows (Resolve v) = shown_care (to_resolve v.shard) (resolving v.seen.holds)
 shows (Raise v) = shown_care (to_raise v.place) (raising v.seen.holds)
 shows (Collect v) = shown_care (to_collect v.shard) (collecting v.seen.holds)
 
--- behind its turn it stands in its slot, unless it has ended
+-- after its turn it stands in its slot, unless it has ended
 abbrev pub in_slot : FlowView → Option CareEnd → Option FlowView
 in_slot v None = Some v
 in_slot v (Some end) = None
@@ -49,7 +49,7 @@ tells (Some (Refused e)) = refuses e
 -- Given what a device holds and whether it is honest, how often a stop may have come at it, what a stop since then may have left, and a store's id
 -- and number of shards
 module _ {D : Type 0} (state : D → State) (honest : D → Type 0) (moment : D → ℕ) (left_since : D → ℕ → List ℕ → Type 0) (store shards : ℕ) where
-  -- The care in this slot, of a node that is there, makes its next call of one node of the store, and is behind it as given.
+  -- The care in this slot, of a node that is there, makes its next call of one node of the store, and is then as given.
   pub record CareTurns (old new : Store D) (slot : ℕ) (flow next : CareFlow) : Type 0 where
     pub there : IsThere shards flow
     pub call : NodeCall

@@ -9,8 +9,8 @@ pub fn flushes_take_their_turn<D: Device>()
     ensures { (store shards : ℕ) → FlushesTurn D.state D.honest D.moment D.left_since store shards }
 {}
 
-/// A shard's learning goes on with heads and decisions that are right, is done where the shard has learned up to the kept place of its heads, or ends with
-/// a refusal that has its cause.
+/// A shard's learning goes on with heads and decisions that are right, is done if the shard has learned up to the kept place of its heads, or ends with a
+/// refusal that has its cause.
 pub fn shards_learn_in_turn<D: Device>()
     ensures { (store shards : ℕ) → LearnsTurn D.state D.honest D.moment D.left_since store shards }
 {}
@@ -20,7 +20,7 @@ pub fn collections_take_their_turn<D: Device>()
     ensures { (store shards : ℕ) → CollectsTurn D.state D.honest D.moment D.left_since store shards }
 {}
 
-/// A raise of the horizon goes on with what the shards have settled, is done where the horizon is at its place, or ends with a refusal that has its cause.
+/// A raise of the horizon goes on with what the shards have settled, is done once the horizon is at its place, or ends with a refusal that has its cause.
 pub fn raises_take_their_turn<D: Device>()
     ensures { (store shards : ℕ) → RaisesTurn D.state D.honest D.moment D.left_since store shards }
 {}

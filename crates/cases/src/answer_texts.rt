@@ -113,7 +113,7 @@ fn writes(alloc: Global, answer: &Answer, want: &str) -> Result<bool, AllocError
     Ok(out.as_slice() == want.as_bytes())
 }
 
-// Whether an answer has this text. It is lent to what can fail: left to the end of a scope it would be taken apart once for each way out.
+// Whether an answer has this text. It is borrowed by what can fail: at the end of a scope it would be dropped once per exit.
 fn has_text(alloc: Global, given: Given, want: &str) -> Result<bool, Refusal> {
     let answer = answer(alloc, given)?;
     let is_written = writes(alloc, &answer, want);

@@ -17,7 +17,7 @@ const TOUCHING: [u8; 40] = [
     6, 0x76, 0x69, 0x65, 0x77, 0x65, 0x72, 1, 2, 0x75, 0x31, 0,
 ];
 
-/// The same where the tuple is absent, in version 2.
+/// The same if the tuple is absent, in version 2.
 const WHERE_ABSENT: [u8; 58] = [
     2, 0, 1, 1, 0, 0, 0, 0, 0, 0, 0, 1, 0, 0, 0, 0, 0, 0, 0, 1, 1, 1, 3, 0x64, 0x6f, 0x63, 1, 0x61,
     6, 0x76, 0x69, 0x65, 0x77, 0x65, 0x72, 1, 2, 0x75, 0x31, 1, 3, 0x64, 0x6f, 0x63, 1, 0x61, 6,
@@ -65,7 +65,7 @@ fn encode_all(records: &[Record], out: &mut Vec<u8>) -> Result<(), AllocError>
     Ok(())
 }
 
-/// Whether that is written of the records, behind the three bytes of a head.
+/// Whether that is written of the records, after the three bytes of a head.
 fn are_written_as(alloc: Global, records: &[Record], wanted: &[u8]) -> bool
     requires { AreRecords records.now }
 {
@@ -73,7 +73,7 @@ fn are_written_as(alloc: Global, records: &[Record], wanted: &[u8]) -> bool
     encode_all(records, &mut out).is_ok() && wanted.get(3..) == Some(out.as_slice())
 }
 
-/// Whether the bytes are a batch of which that is written. The records are lent: what owns them has one way out.
+/// Whether the bytes are a batch of which that is written. The records are borrowed: their owner has one exit.
 fn is_written_as(alloc: Global, bytes: &[u8], wanted: &[u8]) -> bool {
     match decode_batch(alloc, bytes) {
         Ok(records) => {
@@ -107,7 +107,7 @@ fn what_is_read_is_written_again(rt: HostRuntime) {
     }
 }
 
-/// Whether the bytes are no batch.
+/// Whether the bytes are not a batch.
 fn is_damaged(alloc: Global, bytes: &[u8]) -> bool {
     match decode_batch(alloc, bytes) {
         Ok(records) => {
@@ -118,7 +118,7 @@ fn is_damaged(alloc: Global, bytes: &[u8]) -> bool {
     }
 }
 
-/// The same with one of them changed, and the last so many left out.
+/// The same with one of them changed, and this many at the end left out.
 fn is_damaged_by(alloc: Global, bytes: &[u8], i: usize, byte: u8, left_out: usize) -> bool {
     match changed(alloc, bytes, i, byte, left_out) {
         Ok(bytes) => is_damaged(alloc, &bytes),

@@ -21,7 +21,7 @@ fn ends(batch: &Batch, from: u64) -> Result<Option<(u64, u64)>, Refusal> {
     }
 }
 
-/// The ends of the decisions behind a place and up to another.
+/// The ends of the decisions after a place and up to another.
 fn batch<D: Device>(
     alloc: Global,
     coordinator: &Coordinator<D>,
@@ -42,7 +42,7 @@ const BATCHES: &[(u64, u64, Result<Option<(u64, u64)>, Refusal>)] = &[
     (19, 300, Err(Refusal::Collected)),
     (20, 301, Err(Refusal::Future)),
     (19, 301, Err(Refusal::Future)),
-    // 256 at most.
+    // At most 256.
     (20, 300, Ok(Some((21, 276)))),
     (20, 276, Ok(Some((21, 276)))),
     (290, 300, Ok(Some((291, 300)))),
@@ -59,7 +59,7 @@ fn wrong_batch<D: Device>(alloc: Global, coordinator: &Coordinator<D>) -> Option
     None
 }
 
-/// Why a write is refused that asks about a place.
+/// Why a write that asks about a place is refused.
 fn refusal_since<D: Device>(
     alloc: Global,
     coordinator: &mut Coordinator<D>,
@@ -91,7 +91,7 @@ fn wrong_place<D: Device>(
     Ok(None)
 }
 
-/// The three numbers of a coordinator, and the place that its next write is told as kept.
+/// The three numbers of a coordinator, and the kept place that its next write is told.
 fn heads<D: Device>(
     alloc: Global,
     coordinator: &mut Coordinator<D>,
@@ -101,7 +101,7 @@ fn heads<D: Device>(
     Ok((heads.length(), heads.kept(), heads.horizon(), kept))
 }
 
-/// Whether the numbers are right before the flush of the staged decision and behind it.
+/// Whether the numbers are right before the flush of the staged decision and after it.
 fn are_right<D: Device>(alloc: Global, coordinator: &mut Coordinator<D>) -> Result<bool, Refusal> {
     let staged = heads(alloc, coordinator)?;
     coordinator.flush()?;
@@ -119,8 +119,8 @@ fn stage<D: Device>(
     Ok(())
 }
 
-/// The coordinator that the tables are of, beside its shard. Each node is owned by a function of its own, since each way out of one that owns
-/// both is proved.
+/// The coordinator of the tables, beside its shard. Each node is owned by a function of its own, since each exit of one that owns both is
+/// proved.
 fn long_beside<D: Device>(
     alloc: Global,
     devices: &mut Vec<D>,

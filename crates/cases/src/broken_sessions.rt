@@ -67,7 +67,7 @@ impl Read for Slow<'_> {
     }
 }
 
-// Takes so many bytes, a few at a time, and then fails.
+// Takes this many bytes, a few at a time, and then fails.
 #[derive(Drop)]
 struct Narrow {
     taken: Vec<u8>,
@@ -103,8 +103,8 @@ const MEMBER: &str = r#"{"member":true,"zookie":"AQAAAAAAAAAAAQAAAAAAAAAB"}"#;
 
 const BAD: &str = r#"{"error":1,"name":"BadRequest"}"#;
 
-// How a session ends over these lines, with so much room for its answers and a reader that fails behind them or not: whether it ended well,
-// and whether it wrote the beginning of the whole, as long as its room, or this long where there is room for more.
+// How a session ends over these lines, with this much room for its answers and a reader that fails after them or not: whether it ended
+// well, and whether it wrote the beginning of the whole, as long as its room, or this long if there is room for more.
 fn serve(
     alloc: Global,
     input: &[u8],

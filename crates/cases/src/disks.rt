@@ -18,7 +18,7 @@ pub(crate) fn has_bytes<D: Device>(alloc: Global, device: &mut D, bytes: &[u8]) 
     }
 }
 
-/// The bytes with one of them changed, and the last so many left out.
+/// The bytes with one of them changed, and this many at the end left out.
 pub(crate) fn changed(
     alloc: Global,
     bytes: &[u8],

@@ -69,7 +69,7 @@ impl RawFile for Struck {
     }
 }
 
-// The eight bytes there; none where it ends before them.
+// The eight bytes there; none if the file ends before them.
 fn word_at<D: Device>(device: &mut D, at: usize) -> Result<Option<u64>, Stopped> {
     let len = device.len()?;
     if len < 8 || at > len - 8 {
@@ -85,7 +85,7 @@ fn begins_with<D: Device>(device: &mut D, bytes: &[u8; 8]) -> bool {
     word_at(device, 0) == Ok(Some(u64::from_be_bytes(*bytes)))
 }
 
-// How many of these succeed: a read, a sync, a write and a sync behind it.
+// How many of these succeed: a read, a sync, a write and a sync after it.
 fn done_by<D: Device>(device: &mut D) -> u64 {
     if !begins_with(device, &[7; 8]) {
         return 0;
@@ -99,7 +99,7 @@ fn done_by<D: Device>(device: &mut D) -> u64 {
     if device.sync().is_err() { 3 } else { 4 }
 }
 
-// How much of a life over such a file succeeds, and whether it can be revived behind that, and reads as before.
+// How much of a life over such a file succeeds, and whether it can be revived after that, and reads as before.
 fn life_of(alloc: Global, struck: u64, len: usize) -> Result<(u64, bool), Refusal> {
     let file = Struck {
         len,
@@ -132,7 +132,7 @@ fn a_file_that_fails_behind_a_write_ends_the_life(rt: HostRuntime) {
     }
 }
 
-// Makes a folder anew.
+// Makes a folder afresh.
 fn make_folder(rt: &HostRuntime, folder: &str) -> bool {
     let _ = fs::remove_dir_all(rt, folder);
     fs::create_dir(rt, folder).is_ok()
@@ -142,7 +142,7 @@ fn remove_folder(rt: &HostRuntime, folder: &str) -> bool {
     fs::remove_dir_all(rt, folder).is_ok()
 }
 
-// The next of a fixed row of numbers.
+// The next of a fixed sequence of numbers.
 fn next(seed: u64) -> u64 {
     let seed = seed ^ (seed << 13);
     let seed = seed ^ (seed >> 7);
@@ -157,14 +157,14 @@ fn bytes_of<D: Device>(alloc: Global, device: &mut D) -> Result<Vec<u8>, Refusal
     Ok(bytes)
 }
 
-// Whether these are those bytes, and behind them zeros up to a multiple of 64 KiB.
+// Whether these are those bytes, and after them zeros up to a multiple of 64 KiB.
 fn are_stretched(found: &[u8], written: &[u8]) -> bool {
     found.starts_with(written)
         && found.len() == written.len().next_multiple_of(65_536)
         && found.iter().skip(written.len()).all(|byte| *byte == 0)
 }
 
-// Whether a file has what the disk has, and zeros alone behind it.
+// Whether a file has what the disk has, and zeros alone after it.
 fn has_written<A: Device, B: Device>(alloc: Global, file: &mut A, disk: &mut B) -> bool {
     match (bytes_of(alloc, file), bytes_of(alloc, disk)) {
         (Ok(found), Ok(written)) => are_stretched(&found, &written),
@@ -200,7 +200,7 @@ fn lives_as<D: Device>(rt: &HostRuntime, folder: &str, disk: &mut D, seed: u64) 
     }
 }
 
-// Whether each of so many lives finds what the disk has.
+// Whether each of this many lives finds what the disk has.
 fn live_as<D: Device>(rt: &HostRuntime, folder: &str, disk: &mut D, lives: u64) -> bool {
     let mut seed = 88_172_645_463_325_252;
     for _ in 0..lives {
@@ -212,7 +212,7 @@ fn live_as<D: Device>(rt: &HostRuntime, folder: &str, disk: &mut D, lives: u64) 
     true
 }
 
-// The same of a new disk.
+// The same for a new disk.
 fn live_as_disk(rt: &HostRuntime, folder: &str, lives: u64) -> bool {
     match disk_of(rt.alloc(), &[]) {
         Ok(mut disk) => live_as(rt, folder, &mut disk, lives),
@@ -239,7 +239,7 @@ fn found_by<D: Device>(alloc: Global, device: D) -> Result<usize, Refusal> {
     }
 }
 
-// The same of the file.
+// The same for the file.
 fn found_in(rt: &HostRuntime, folder: &str) -> Result<usize, Refusal> {
     let device = open(rt, rt.alloc(), folder, NAME, Access::Make)?;
     found_by(rt.alloc(), device)

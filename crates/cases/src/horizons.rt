@@ -70,7 +70,7 @@ fn is_at<D: Device>(
     Ok(coordinator.heads()?.horizon() == horizon && is_served == is_below && is_found == is_below)
 }
 
-/// A place, what becomes of the call, and the durable horizon before the next flush and behind it.
+/// A place, what becomes of the call, and the durable horizon before the next flush and after it.
 const RAISINGS: &[(u64, Raising, u64, u64)] = &[
     (5, Raising::NotSettled, 0, 0),
     (4, Raising::Refused(Refusal::Future), 0, 0),
@@ -80,7 +80,7 @@ const RAISINGS: &[(u64, Raising, u64, u64)] = &[
     (3, Raising::Raised, 2, 3),
 ];
 
-/// Whether a call of `raise` comes to that, and the durable horizon is as told before the next flush and behind it.
+/// Whether a call of `raise` comes to that, and the durable horizon is as told before the next flush and after it.
 fn is_raised<D: Device>(
     alloc: Global,
     coordinator: &mut Coordinator<D>,
@@ -107,7 +107,7 @@ fn wrong_row<D: Device>(
     Ok(None)
 }
 
-/// The same of a coordinator over two of the devices. Each node is owned by a function of its own, since each way out of one that owns both
+/// The same for a coordinator over two of the devices. Each node is owned by a function of its own, since each exit of one that owns both
 /// is proved.
 fn wrong_row_beside<D: Device>(
     alloc: Global,
@@ -154,7 +154,7 @@ fn raise_to_each<D: Device>(
     Ok(true)
 }
 
-/// Whether a horizon to place 65,536 is refused behind 65,535 staged ones, which fill the batch, and raised behind their flush.
+/// Whether a horizon to place 65,536 is refused after 65,535 staged ones, which fill the batch, and raised after their flush.
 fn is_refused_once<D: Device>(
     alloc: Global,
     coordinator: &mut Coordinator<D>,

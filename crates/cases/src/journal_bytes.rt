@@ -41,7 +41,7 @@ const TOUCHED: &[u8] = &[
     0x6f, 0x63, 1, 0x61, 6, 0x76, 0x69, 0x65, 0x77, 0x65, 0x72, 1, 2, 0x75, 0x31, 0, 0,
 ];
 
-/// The first opening, and behind it the touch, as it is written.
+/// The first opening, and after it the touch, as it is written.
 const OPENED_AND_TOUCHED: &[u8] = &[
     0xa5, 0, 0, 0, 0x16, 1, 0, 1, 4, 0, 0, 0, 0, 0, 0, 0, 1, 0, 0, 0, 0, 0, 0, 0, 1, 2, 1, 0xa5, 0,
     0, 0, 0x28, 2, 0, 1, 1, 0, 0, 0, 0, 0, 0, 0, 1, 0, 0, 0, 0, 0, 0, 0, 1, 1, 1, 3, 0x64, 0x6f,
@@ -98,7 +98,7 @@ fn records_in(alloc: Global, content: &[u8]) -> Result<usize, Refusal> {
     records_on(alloc, a, b)
 }
 
-/// How many it has with one of the bytes changed, and the last so many left out.
+/// How many it has with one of the bytes changed, and this many at the end left out.
 fn records_in_changed(
     alloc: Global,
     content: &[u8],
@@ -149,7 +149,7 @@ fn stage_all<D: Device>(journal: &mut Journal<D>, records: &[Record]) -> Result<
     Ok(())
 }
 
-/// Whether the records of a batch are staged. They are lent: what owns them has one way out.
+/// Whether the records of a batch are staged. They are borrowed: their owner has one exit.
 fn is_staged<D: Device>(alloc: Global, journal: &mut Journal<D>, batch: &[u8]) -> bool {
     match decode_batch(alloc, batch) {
         Ok(records) => {
@@ -161,7 +161,7 @@ fn is_staged<D: Device>(alloc: Global, journal: &mut Journal<D>, batch: &[u8]) -
     }
 }
 
-/// Whether the flush fails exactly where the n-th call that is struck is one of its four.
+/// Whether the flush fails exactly if the n-th call, which is struck, is one of its four.
 fn flush_struck<D: Device>(journal: &mut Journal<D>, n: u64, tear: Tear) -> bool {
     journal.fail(Bank::A, n, tear);
     journal.flush().is_ok() == (n > 4) && journal.is_down() == (n <= 4)
@@ -219,7 +219,7 @@ fn a_batch_is_written_behind_the_closed_gate(rt: HostRuntime) {
     }
 }
 
-/// How many records are found behind a flush of which the n-th call failed.
+/// How many records are found after a flush of which the n-th call failed.
 fn records_behind(alloc: Global, n: u64, tear: Tear) -> Result<usize, Refusal> {
     let disks = disks_of(alloc, OPENED)?;
     let a = flushed(alloc, disks, TOUCHING, n, tear)?;

@@ -21,7 +21,7 @@ const PREPARE: [u8; 40] = [
     6, 0x76, 0x69, 0x65, 0x77, 0x65, 0x72, 1, 2, 0x75, 0x31, 0,
 ];
 
-// The first batch, and the prepare behind it, behind an open gate each.
+// The first batch, and the prepare after it, each behind an open gate.
 const BOTH: [u8; 73] = [
     0xa5, 0, 0, 0, 0x16, 1, 0, 1, 4, 0, 0, 0, 0, 0, 0, 0, 1, 0, 0, 0, 0, 0, 0, 0, 1, 2, 1, 0xa5, 0,
     0, 0, 0x28, 1, 0, 1, 1, 0, 0, 0, 0, 0, 0, 0, 1, 0, 0, 0, 0, 0, 0, 0, 1, 1, 1, 3, 0x64, 0x6f,
@@ -43,7 +43,7 @@ pub(crate) fn opened<D: Device>(alloc: Global, device: D) -> Result<(GatedLog<D>
     }
 }
 
-/// Whether a device of these bytes is opened by three calls with so many bodies, and has those bytes then.
+/// Whether a device of these bytes is opened by three calls with this many bodies, and then has those bytes.
 fn is_found(alloc: Global, content: &[u8], bodies: usize, bytes: &[u8]) -> Result<bool, Refusal> {
     let (log, found) = opened(alloc, disk_of(alloc, content)?)?;
     let mut disk = log.into_device();
@@ -52,7 +52,7 @@ fn is_found(alloc: Global, content: &[u8], bodies: usize, bytes: &[u8]) -> Resul
 }
 
 const FOUND: &[(&[u8], usize, &[u8], &str)] = &[
-    // A device of at most one byte is made anew.
+    // A device of at most one byte is initialized.
     (&[], 0, &[0], "nothing"),
     (&[0xa5], 0, &[0], "an open gate alone"),
     (&[7], 0, &[0], "one byte"),
@@ -61,7 +61,7 @@ const FOUND: &[(&[u8], usize, &[u8], &str)] = &[
     (CLOSED, 0, CLOSED, "a batch behind a closed gate"),
 ];
 
-/// Why no device is opened of the batch with one byte changed, and the last so many left out.
+/// Why no device with the batch is opened once one byte is changed, and this many at the end are left out.
 fn refusal_of(alloc: Global, place: usize, byte: u8, left_out: usize) -> Option<Refusal> {
     let content = changed(alloc, BATCH, place, byte, left_out).ok()?;
     let disk = disk_of(alloc, &content);
@@ -98,13 +98,13 @@ fn buffer() -> [u8; 45] {
     buf
 }
 
-/// Whether an append of the prepare fails where its n-th call is struck, which is one of four.
+/// Whether an append of the prepare fails if its n-th call, one of four, is struck.
 fn append_struck<D: Device>(log: &mut GatedLog<D>, n: u64, tear: Tear) -> bool {
     log.fail(n, tear);
     log.append(&mut buffer()).is_ok() == (n > 4)
 }
 
-/// Whether these bytes are left by an append behind what the device has, whose n-th call failed, or by a whole one.
+/// Whether these bytes are left by an append after what the device has, whose n-th call failed, or by a whole one.
 fn is_left_with<D: Device>(alloc: Global, device: D, n: u64, tear: Tear, bytes: &[u8]) -> bool {
     let Ok((mut log, _)) = opened(alloc, device) else {
         return false;
@@ -114,7 +114,7 @@ fn is_left_with<D: Device>(alloc: Global, device: D, n: u64, tear: Tear, bytes: 
     is_as_scripted && device.revive().is_ok() && has_bytes(alloc, &mut device, bytes)
 }
 
-/// The same behind the batch.
+/// The same after the batch.
 fn leaves(alloc: Global, n: u64, tear: Tear, bytes: &[u8]) -> bool {
     match disk_of(alloc, BATCH) {
         Ok(disk) => is_left_with(alloc, disk, n, tear, bytes),
@@ -122,7 +122,7 @@ fn leaves(alloc: Global, n: u64, tear: Tear, bytes: &[u8]) -> bool {
     }
 }
 
-/// The batch, and behind it the prepare behind this gate.
+/// The batch, and after it the prepare behind this gate.
 fn with_prepare(gate: u8) -> [u8; 73] {
     let mut content = BOTH;
     content[27] = gate;
@@ -158,7 +158,7 @@ fn an_append_writes_the_record_and_then_its_gate(rt: HostRuntime) {
     }
 }
 
-/// How many calls of its disk a log has made behind each step: its opening, a list that is emptied, an empty one, two bodies ahead, and their publishing.
+/// How many calls of its disk a log has made after each step: its opening, a list that is emptied, an empty one, two bodies ahead, and their publishing.
 fn calls_of_steps(alloc: Global) -> Result<[u64; 6], Refusal> {
     let (mut log, _) = opened(alloc, disk_of(alloc, BATCH)?)?;
     let mut calls = [log.device().calls(); 6];
@@ -182,7 +182,7 @@ fn publish_two<D: Device>(log: &mut GatedLog<D>) -> Result<(), Refusal> {
     log.publish()
 }
 
-/// How many bodies the next opening finds, where the n-th call of that was struck behind the batch.
+/// How many bodies the next opening finds, if the n-th call of that was struck after the batch.
 fn found_behind(alloc: Global, n: u64, tear: Tear) -> Result<usize, Refusal> {
     let (mut log, _) = opened(alloc, disk_of(alloc, BATCH)?)?;
     log.fail(n, tear);
@@ -209,7 +209,7 @@ const PUBLISHED: &[(u64, Tear, usize)] = &[
     (5, Tear::Fill(0xa5), 3),
     (6, Tear::Old, 1),
     (6, Tear::New, 3),
-    // None: the next opening makes three calls more.
+    // None: the next opening makes three more calls.
     (10, Tear::Old, 3),
 ];
 

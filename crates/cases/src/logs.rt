@@ -30,7 +30,7 @@ fn journal<D: Device>(alloc: Global, devices: &mut Vec<D>) -> Result<Journal<D>,
     }
 }
 
-/// Stages a record, which is let go of here: within a `?` it would be taken apart once for each way out.
+/// Stages a record, which is dropped here: within a `?` it would be dropped once per exit.
 fn stage<D: Device>(journal: &mut Journal<D>, next: Record) -> Result<(), Refusal>
     requires spellable { IsRecord next }
     requires plain { IsPlain next }
@@ -104,7 +104,7 @@ fn stage_decision<D: Device>(
     }
 }
 
-/// Stages so many decisions: at each place the write with the number of the place.
+/// Stages this many decisions: at each place the write with the number of the place.
 fn stage_decisions<D: Device>(
     alloc: Global,
     journal: &mut Journal<D>,
@@ -119,7 +119,7 @@ fn stage_decisions<D: Device>(
     Ok(())
 }
 
-/// Stages so many decisions and a horizon, and flushes.
+/// Stages this many decisions and a horizon, and flushes.
 fn keep<D: Device>(
     alloc: Global,
     journal: &mut Journal<D>,
@@ -135,7 +135,7 @@ fn keep<D: Device>(
     journal.flush()
 }
 
-/// The devices of a journal behind what was done to it, unless that was refused.
+/// The devices of a journal after what was done to it, unless that was refused.
 fn devices_behind<D: Device>(
     journal: Journal<D>,
     done: Result<(), Refusal>,
@@ -149,7 +149,7 @@ fn devices_behind<D: Device>(
     }
 }
 
-/// The coordinator at its second opening, over so many decisions and a horizon.
+/// The coordinator at its second opening, over this many decisions and a horizon.
 pub(crate) fn coordinator_with<D: Device>(
     alloc: Global,
     devices: &mut Vec<D>,

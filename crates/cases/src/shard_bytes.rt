@@ -30,7 +30,7 @@ fn has_bytes<D: Device>(alloc: Global, device: &mut D, bytes: &[u8]) -> bool {
     }
 }
 
-/// The first of the devices behind an opening of shard 1 of 2 over these bytes on it.
+/// The first of the devices after an opening of shard 1 of 2 over these bytes on it.
 fn opened_over<D: Device>(alloc: Global, (mut a, b): (D, D), bytes: &[u8]) -> Result<D, Refusal> {
     if a.write_at(0, bytes).is_err() {
         return Err(Refusal::Down);
@@ -48,7 +48,7 @@ fn opened_on_disks(alloc: Global, bytes: &[u8]) -> Result<SimDisk, Refusal> {
     opened_over(alloc, devices?, bytes)
 }
 
-/// Why an opening is refused over the first bytes of a first opening, one of them changed.
+/// Why an opening is refused over the first bytes of a first opening, with one of them changed.
 fn refusal_over(alloc: Global, len: usize, place: usize, byte: u8) -> Option<Refusal> {
     match changed(place, byte).get(..len) {
         Some(bytes) => opened_on_disks(alloc, bytes).err(),

@@ -4,6 +4,7 @@ use refusal::Refusal;
 use replay::{Memory, Replay};
 use std::alloc::{AllocError, Global};
 use tuples::{Shards, Tupleset};
+use versions::Budget;
 
 // Each record is alone in a batch.
 
@@ -136,7 +137,7 @@ fn take_all(alloc: Global, replay: &mut Replay, batches: &[&[u8]]) -> usize {
 
 /// How many tuples are there at a place.
 fn there(alloc: Global, memory: &Memory, place: u64, set: &Tupleset) -> Result<usize, AllocError> {
-    let tuples = memory.at(alloc, place, set)?;
+    let tuples = memory.at(alloc, place, set, &mut Budget::unbounded())?;
     let count = tuples.len();
     drop(tuples);
     Ok(count)
@@ -163,7 +164,7 @@ fn known(alloc: Global, memory: &Memory) -> Result<[u64; 5], Refusal> {
     ])
 }
 
-/// A shard after these records; `Damaged` where one of them may not come next, or a checkpoint has not ended.
+/// A shard after these records; `Damaged` if one of them may not come next, or a checkpoint has not ended.
 fn memory_after(alloc: Global, batches: &[&[u8]]) -> Result<Memory, Refusal> {
     let mut replay = Replay::new(alloc);
     if take_all(alloc, &mut replay, batches) < batches.len() {
@@ -196,7 +197,7 @@ const LIVED: &[&[u8]] = &[
     OPENED_AGAIN,
 ];
 
-/// A checkpoint that stands for the same, with another write in doubt that is dropped behind it.
+/// A checkpoint that stands for the same, with another write in doubt that is dropped after it.
 const CHECKPOINTED: &[&[u8]] = &[
     BEGUN,
     OPENED_AGAIN,
@@ -239,7 +240,7 @@ fn taken_of(alloc: Global, batches: &[&[u8]]) -> usize {
     taken
 }
 
-/// How many are taken where this one is the fifth.
+/// How many are taken if this one is the fifth.
 fn taken_before(alloc: Global, last: &[u8]) -> usize {
     taken_of(alloc, &[OPENED, PREPARED, LEARNED, PREPARED_LATER, last])
 }
@@ -265,7 +266,7 @@ fn what_may_not_come_next_is_damage(rt: HostRuntime) {
     }
 }
 
-/// How many are taken where this one stands fifth in a checkpoint.
+/// How many are taken if this one stands fifth in a checkpoint.
 fn taken_inside(alloc: Global, last: &[u8]) -> usize {
     taken_of(
         alloc,

@@ -28,7 +28,7 @@ fn add_disk(alloc: Global, disks: &mut Vec<SimDisk>) -> Result<(), Refusal> {
     Ok(())
 }
 
-/// So many new disks; each node takes two.
+/// This many new disks; each node takes two.
 pub(crate) fn new_disks(alloc: Global, count: usize) -> Result<Vec<SimDisk>, Refusal> {
     let mut disks = Vec::new(alloc);
     for _ in 0..count {
@@ -96,7 +96,7 @@ pub(crate) fn open_only_shard<D: Device>(
     open_shard(alloc, a, b, Identity::shard(STORE, Shards::of(1), 0))
 }
 
-/// Raises the horizon of a coordinator; none where the values don't settle the place at each shard of its store.
+/// Raises the horizon of a coordinator; none if the values don't settle the place at each shard of its store.
 pub(crate) fn raise<D: Device>(
     coordinator: &mut Coordinator<D>,
     place: u64,

@@ -22,7 +22,7 @@ fn write<D: Device>(disk: &mut D, at: usize, bytes: &[u8]) -> Result<(), Stopped
 
 fn take_all<D: Device>(disk: &mut D, steps: &[Step]) {
     for step in steps {
-        // Whether it failed is told by what is counted.
+        // What is counted tells whether it failed.
         let _ = match step {
             Step::Write(at, bytes) => write(disk, *at, bytes),
             Step::Sync => disk.sync(),
@@ -35,7 +35,7 @@ fn take_all<D: Device>(disk: &mut D, steps: &[Step]) {
     }
 }
 
-/// Whether it has these bytes after these steps, has counted so many calls, and so many failed.
+/// Whether it has these bytes after these steps, has counted this many calls, and this many failed.
 fn is_left_with(
     alloc: Global,
     steps: &[Step],
@@ -49,7 +49,7 @@ fn is_left_with(
     Ok(are_counted && has_bytes(alloc, &mut disk, bytes))
 }
 
-/// Whether two writes, of which the second is struck by 4, and the sync after them by 5, leave these bytes and so many failures.
+/// Whether two writes, of which the second is struck by 4, and the sync after them by 5, leave these bytes and this many failures.
 fn leave(alloc: Global, n: u64, tear: Tear, bytes: &[u8], failures: u64) -> bool {
     let steps = [
         Step::Fail(n, tear),

@@ -1,11 +1,11 @@
-// A read of versions that counts the rows which it looks at.
+// A read of versions that counts the rows that it looks at.
 ghost use Rattle.std.specs.Prelude.{◌≡◌, ◌<◌};
 
 use std::alloc::Global;
 use std::marker::Brand;
 use std::sync::ledger::{Blank, Ledger};
 use tuples::{Change, Refusal, Tuple, Tupleset};
-use versions::{Steps, Versions};
+use versions::{Budget, Steps, Versions};
 
 fn apply(alloc: Global, versions: &mut Versions, place: u64, text: &str) -> Result<(), Refusal> {
     let tuple = Tuple::parse(alloc, text.as_bytes())?;
@@ -13,7 +13,7 @@ fn apply(alloc: Global, versions: &mut Versions, place: u64, text: &str) -> Resu
     Ok(())
 }
 
-// How many tuples are read; none where memory was refused.
+// How many tuples are read; none if memory was refused.
 fn read_counted(alloc: Global, versions: &Versions, place: u64, text: &str) -> Option<usize> {
     let Ok(set) = Tupleset::parse(alloc, text.as_bytes()) else {
         return None;
@@ -45,7 +45,7 @@ fn counted_by<L: Ledger>(
     set: &Tupleset,
     steps: &mut Steps<L>,
 ) -> Option<usize> {
-    match versions.at_counted(alloc, place, set, steps) {
+    match versions.at_counted(alloc, place, set, &mut Budget::unbounded(), steps) {
         Ok(tuples) => {
             let count = tuples.len();
             drop(tuples);
@@ -75,7 +75,7 @@ fn apply_all(alloc: Global, versions: &mut Versions) -> Result<(), Refusal> {
     Ok(())
 }
 
-// How many tuples of a set are read at a place behind these.
+// How many tuples of a set are read at a place after these.
 fn read_behind(alloc: Global, place: u64, text: &str) -> Option<usize> {
     let mut versions = Versions::new(alloc);
     let applied = apply_all(alloc, &mut versions);

@@ -28,7 +28,7 @@ fn not_after(alloc: Global, text: &str, place: u64) -> Result<Vec<Condition>, Re
     Ok(only(alloc, Condition { tuple, want })?)
 }
 
-/// The write that touches one tuple where that has no change after the place.
+/// The write that touches one tuple if that has no change after the place.
 pub(crate) fn touch_since(alloc: Global, text: &str, place: u64) -> Result<Write, Refusal> {
     let changes = touches(alloc, text)?;
     match not_after(alloc, text, place) {
@@ -51,7 +51,7 @@ pub(crate) fn begin<D: Device>(
     Ok(begun)
 }
 
-/// The vote for a ticket: it comes later before a flush, and is there behind it.
+/// The vote for a ticket: it comes later before a flush, and is there after it.
 fn vote<D: Device>(shard: &mut Shard<D>, ticket: Ticket) -> Result<Vote, Refusal> {
     let ticket = match shard.vote(ticket) {
         VoteReply::Later(ticket) => ticket,
@@ -102,7 +102,7 @@ fn leave(refusal: Refusal, intent: Intent, votes: Vec<Vote>) -> Refusal {
     refusal
 }
 
-/// Decides a write by the votes for it; `BadRequest` where they are not one of each shard that takes part.
+/// Decides a write by the votes for it; `BadRequest` if they are not one of each participant.
 fn decide_by<D: Device>(
     coordinator: &mut Coordinator<D>,
     intent: Intent,

@@ -20,7 +20,7 @@ use Rattle.calls.specs.declared.reply.CoordinatorReply.TheVariants.{Batch as bat
 use Rattle.calls.specs.declared.reply.ShardReply.{ShardReply}
 use Rattle.calls.specs.declared.reply.ShardReply.TheVariants.{Learned as learned_reply, Learn as learn_reply, Flush as flush_reply}
 
--- What comes next: the shard is asked how far it has learned; decisions are fetched from behind a place; they are handed to a shard that was flushed for
+-- What comes next: the shard is asked how far it has learned; decisions are fetched from after a place; they are handed to a shard that was flushed for
 -- them, or was not; they wait for its flush.
 abbrev pub to_ask : CatchUpValue → CatchUpValue
 to_ask v = record v { batch = None; next = names.Learned; from = None; flushed = false }
@@ -34,14 +34,14 @@ to_hand_over batch flushed v = record v { batch = batch; next = names.Learn; fro
 abbrev pub to_flush : BatchValue → CatchUpValue → CatchUpValue
 to_flush batch v = record v { batch = Some batch; next = names.Flush; from = None; flushed = false }
 
--- a call of the shard: it is asked how far it has learned, or is handed the decisions that are held, for the first time or behind a flush, or it is flushed
+-- a call of the shard: it is asked how far it has learned, or is handed the decisions that are held, for the first time or after a flush, or it is flushed
 abbrev pub AsksShard : CatchUpValue → ShardCall → CatchUpCallValue → Type 0
 AsksShard v Learned after = after ≡ record { held = v; awaited = learned }
 AsksShard v (Learn batch) after = (v.batch ≡ Some batch) × (after ≡ record { held = record v { batch = None; flushed = false }; awaited = learning v.flushed })
 AsksShard v Flush after = after ≡ record { held = v; awaited = flushing }
 AsksShard v call after = ⊥
 
--- a call of the coordinator: it is asked for the decisions behind the place that the shard told, up to the one to which it is brought
+-- a call of the coordinator: it is asked for the decisions after the place that the shard answered, up to the one to which it is brought
 abbrev pub AsksCoordinator : CatchUpValue → CoordinatorCall → CatchUpCallValue → Type 0
 AsksCoordinator v (Batch from to) after = (v.from ≡ Some from) × (from < to) × (to ≡ v.to) × (after ≡ record { held = record v { from = None }; awaited = decisions })
 AsksCoordinator v call after = ⊥
@@ -71,18 +71,18 @@ abbrev pub LearnedGives : CatchUpValue → Result ℕ Refusal → Progress → T
 LearnedGives v (Ok n) progress = (v.to ≤ n → progress ≡ There) × (n < v.to → progress ≡ Next (to_fetch n v))
 LearnedGives v (Err e) progress = progress ≡ Refused e
 
--- decisions came; where those behind the place are forgotten, the shard is asked anew
+-- decisions came; if those after the place are forgotten, the shard is asked again
 abbrev pub BatchGives : CatchUpValue → Result BatchValue Refusal → Progress → Type 0
 BatchGives v (Ok b) progress = progress ≡ Next (to_hand_over (Some b) false v)
 BatchGives v (Err e) progress = (e ≡ Collected → progress ≡ Next (to_ask v)) × (e ≢ Collected → progress ≡ Refused e)
 
--- the shard has learned, and is asked anew; where it is full for the first time, the decisions wait for a flush
+-- the shard has learned, and is asked again; if it is full for the first time, the decisions wait for a flush
 abbrev pub LearnGives : CatchUpValue → Awaited → BatchValue → Result Bool Refusal → Progress → Type 0
 LearnGives v awaited b (Ok is_known) progress = progress ≡ Next (to_ask v)
 LearnGives v awaited b (Err e) progress = (e ≡ Full → awaited ≡ learning false → progress ≡ Next (to_flush b v))
     × ((e ≢ Full) ⊎ (awaited ≡ learning true) → progress ≡ Refused e)
 
--- the shard was flushed, and the decisions are handed over once more
+-- the shard was flushed, and is handed the decisions again
 abbrev pub FlushGives : CatchUpValue → Result (Unit {0}) Refusal → Progress → Type 0
 FlushGives v (Ok done) progress = progress ≡ Next (to_hand_over v.batch true v)
 FlushGives v (Err e) progress = progress ≡ Refused e

@@ -3,8 +3,8 @@ use Rattle.std.specs.Prelude.{ℕ, Bool, Option}
 use Rattle.decisions.specs.Values.{BatchValue}
 use Rattle.names.specs.declared.call_name.CallName.{CallName}
 
--- between two calls: the shard, the place to which it is brought, the decisions on their way to it, and the name of the call that comes next; where
--- that one fetches decisions, the place behind which; and whether the shard was flushed for those that it is handed next
+-- between two calls: the shard, the place to which it is brought, the decisions on their way to it, and the name of the call that comes next; if
+-- that one fetches decisions, the place after which; and whether the shard was flushed for those that it is handed next
 pub record CatchUpValue : Type 0 where
   pub shard : ℕ
   pub to : ℕ
@@ -13,7 +13,7 @@ pub record CatchUpValue : Type 0 where
   pub from : Option ℕ
   pub flushed : Bool
 
--- The call that is out: how far has the shard learned; the decisions behind a place; that the shard learn, for the first time or again behind a flush;
+-- The call that is out: how far has the shard learned; the decisions after a place; that the shard learn, for the first time or again after a flush;
 -- that flush.
 pub data Awaited : Type 0 where
   learned : Awaited

@@ -23,7 +23,7 @@ name_of (Batch from) = names.Batch
 name_of (Learn batch again) = names.Learn
 name_of (Flush batch) = names.Flush
 
--- the place behind which decisions are fetched
+-- the place after which decisions are fetched
 abbrev pub from_of : Step → Option ℕ
 from_of Learned = None
 from_of (Batch from) = Some from

@@ -15,7 +15,7 @@ use std::marker::Model;
 pub(crate) enum Step {
     // how far has the shard learned?
     Learned,
-    // the decisions behind this place are wanted
+    // the decisions after this place are wanted
     Batch(u64),
     // the shard is to learn these; whether it was flushed for that already
     Learn(Batch, bool),
@@ -44,7 +44,7 @@ impl Model for CatchUp {
 }
 
 impl CatchUp {
-    /// Of this shard, up to this place.
+    /// Brings this shard up to this place.
     pub fn new(shard: u8, to: u64) -> CatchUp
         ensures { result ≡ record { shard = shard; to = to; batch = None; next = names.Learned; from = None; flushed = false } }
     {
@@ -67,7 +67,7 @@ impl CatchUp {
         }
     }
 
-    /// Its next call. It asks for decisions from the place on that the shard told, and tells a learning behind a flush from the first one.
+    /// Its next call. It asks for decisions from the place that the shard answered, and tells a learning after a flush from a first one.
     pub fn next_call(self) -> (NodeCall, CatchUpCall)
         ensures asks { Asks self result.0 result.1 }
         ensures name { name_of_call result.0 ≡ self.next }

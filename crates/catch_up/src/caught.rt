@@ -45,7 +45,7 @@ impl Model for CatchUpCall {
 /// What a reply made of it.
 #[derive(Drop)]
 pub enum Progress {
-    /// It goes on.
+    /// It continues.
     Next(CatchUp),
     /// The shard has answered that it has learned up to the place.
     There,
@@ -116,8 +116,8 @@ fn flushed(shard: u8, to: u64, batch: Batch, answer: Result<(), Refusal>) -> Pro
 }
 
 impl CatchUpCall {
-    /// What the reply to its call makes of it. A refusal ends it, but for two: behind a place whose decisions are forgotten the shard is asked
-    /// anew how far it has learned, and a full shard is flushed once and handed the same decisions again.
+    /// What the reply to its call makes of it. A refusal ends it, with two exceptions: if the decisions after a place are forgotten, the shard
+    /// is asked again how far it has learned, and a full shard is flushed once and handed the same decisions again.
     pub fn give(self, reply: Reply) -> Progress
         requires { Fits self.awaited reply }
         ensures { Gives self reply result }

@@ -42,7 +42,7 @@ added old room flow is told new same eq adds =
 pub test_true : (b : Bool) (P : Type 0) → (IsTrue b ↔ P) → b ≡ true → P
 test_true b P same is = same.0 is
 
--- where it could not begin for lack of memory, the flows are those that there were
+-- if it could not begin for lack of memory, the flows are those that there were
 pub kept_so : (shards : ℕ) (old new : List (Option Flow)) (result : Result (Option What) AllocError) → OnOk result (AreFlows shards old → AreFlows shards new) → OnErr result (new ≡ old)
     → AreFlows shards old → AreFlows shards new
 kept_so shards old new (Ok told) ok err all = ok all

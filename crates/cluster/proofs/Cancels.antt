@@ -1,4 +1,4 @@
--- A flow that stays behind a cancel runs on.
+-- A flow that stays after a cancel runs on.
 use Rattle.std.proofs.Common.{◌≡◌, ◌∙◌, ℕ, Bool, true, false, Option, Some, None, is_some, refl, sym}
 use Rattle.cluster.specs.declared.flow.Flow.{Flow}
 use Rattle.cluster.specs.declared.flow.Flow.TheVariants.{Write, Read, Check, Watch, Care}

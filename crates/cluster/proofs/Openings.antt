@@ -1,4 +1,4 @@
--- One node more is opened over two devices more.
+-- One more node is opened over two more devices.
 use Rattle.std.proofs.Common.{◌≡◌, ◌+◌, ◌*◌, ◌≤◌, ◌++◌, ◌∙◌, ℕ, suc, List, [], ◌∷◌, length, refl, sym, ap, subst, append_assoc, append-nil, arith}
 use Rattle.std.proofs.lemmas.List.{nil_from_length}
 use Rattle.device.specs.Device.{State}
@@ -51,14 +51,14 @@ module _ {D : Type 0} (state : D → State) (honest : D → Type 0) (moment : D 
   first all nodes later later_nodes none o =
       next all all nodes Coordinator later later_nodes (subst (SoFar all all) (sym none) (none_yet all)) (ap (λ (ns : List (NodeView D)). name_at (length ns)) (sym none)) o
 
-  -- and behind it stand the shards
+  -- and after it stand the shards
   pub more : (all left : List D) (nodes : List (NodeView D)) (s : ℕ) (later : List D) (later_nodes : List (NodeView D))
       → SoFar all left nodes → length nodes ≡ s + 1 → OpensNext state honest moment left_since store shards (Shard s) left nodes later later_nodes → SoFar all later later_nodes
   more all left nodes s later later_nodes so count o =
       let e : suc s ≡ length nodes = omega (arith, count) in
       next all left nodes (Shard s) later later_nodes so (ap name_at e) o
 
-  -- so many devices less leave none
+  -- this many fewer devices leave none
   pub opened : (all left : List D) (nodes : List (NodeView D)) (count s : ℕ) → SoFar all left nodes → length left ≡ count → count + 2 * s ≡ 2 * shards → shards ≤ s → AreOpened state honest moment left_since store shards 0 all nodes
   opened all left nodes count s so len taken over = all_opened all left nodes so (nil_from_length left (omega (arith, len, taken, over)))
 

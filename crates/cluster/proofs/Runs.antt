@@ -1,4 +1,4 @@
--- One step more makes a run one step longer.
+-- One more step makes a run one step longer.
 use Rattle.std.proofs.Common.{◌≡◌, ◌+◌, ◌<◌, ◌++◌, ◌∙◌, ℕ, List, [], ◌∷◌, length, get_or, take, true, false, Result, Ok, Err, OnOk, OnErr, is_err, refl, sym, ap, subst, append_assoc, append-nil, arith}
 use Rattle.std.proofs.lemmas.List.{length-take-le, take_more}
 use Rattle.std.specs.declared.alloc.AllocError.{AllocError}
@@ -20,7 +20,7 @@ module _ {D : Type 0} (state : D → State) (honest : D → Type 0) (moment : D 
       let later = one_more all.0 mid new (number + 1) at steps step all.2 more all.4 (omega (arith, is)) took in
       (all.0, all.1, all.2 ++ more, all.3, later, ap (λ (es : List Event). es ++ more) all.5 ∙ append_assoc all.1 all.2 more)
 
-  -- the first steps were taken, and told what is behind the events that there were
+  -- the first steps were taken, and told what is after the events that there were
   pub record RanSoFar (old : WorldView D) (steps : List Step) (n : ℕ) (before : List Event) (new : WorldView D) (events : List Event) : Type 0 where
     pub more : List Event
     pub runs : TookAll state honest moment left_since old 0 (take n steps) more new
@@ -42,7 +42,7 @@ module _ {D : Type 0} (state : D → State) (honest : D → Type 0) (moment : D 
         told = told ∙ ap (λ (es : List Event). es ++ more) so.told ∙ append_assoc before so.more more;
       }
 
--- a result that is no error
+-- a result that is not an error
 pub on_ok : (result : Result (Unit {0}) AllocError) (P : Type 0) → is_err result ≡ false → OnOk result P → P
 on_ok (Ok done) P is p = p
 on_ok (Err e) P is p = absurd (cc)

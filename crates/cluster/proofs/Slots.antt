@@ -21,7 +21,7 @@ puts old new key flow u = record { at = u.changed; others = u.others }
 pub puts_over : (old mid new : List (Option Flow)) (slot : ℕ) (was is : Option Flow) → Puts old slot was mid → Puts mid slot is new → Puts old slot is new
 puts_over old mid new slot was is first then = record { at = then.at; others = λ other differs. then.others other differs ∙ first.others other differs }
 
--- with a flow more, or one less, they are such flows
+-- with one flow more or less, they are such flows
 pub keeps : (shards : ℕ) (old new : List (Option Flow)) (slot : ℕ) (put : Option Flow) → Puts old slot put new → AreFlows shards old
     → ((flow : Flow) → put ≡ Some flow → IsRunning shards flow) → AreFlows shards new
 keeps shards old new slot put p all here =
@@ -40,7 +40,7 @@ leaves_over old mid new slot was later told first l = record { named = l.named; 
     by_name None gone = record { end = gone.end; ends = gone.ends; puts = puts_over old mid new slot was None first gone.puts; tells = gone.tells }
     by_name (Some name) on = record { puts = puts_over old mid new slot was (Some later) first on.puts; tells = on.tells }
 
--- what is said by cases of a slot, or of a node, where the case is known
+-- what is said by cases of a slot, or of a node, if the case is known
 pub at_some : {X : Type 0} (here : Option X) (x : X) (P : Type 0) (Q : X → Type 0) → here ≡ Some x → Q x → MatchOption here P Q
 at_some here x P Q is q = subst (λ (o : Option _). MatchOption o P Q) (sym is) q
 

@@ -55,7 +55,7 @@ module _ {D : Type 0} (state : D → State) (honest : D → Type 0) (moment : D 
       by_node None h = (h.0, same_nodes old nodes h.1)
       by_node (Some was) h = (h, refl)
 
-  -- The same of a store whose fields were changed one by one.
+  -- The same for a store whose fields were changed one by one.
   pub turned : (view old : WorldView D) (slot : ℕ) (told : Option What) (nodes : List (NodeView D)) (flows : List (Option Flow)) → view ≡ old
       → MatchOption (flow_at view.flows slot) ((told ≡ None) × (nodes ≡ view.nodes) × (flows ≡ view.flows))
       (λ flow. SlotTurns state honest moment left_since view.shards view.nodes view.flows slot flow told nodes flows)

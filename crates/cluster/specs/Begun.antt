@@ -23,14 +23,14 @@ IsFresh latest = Unit {0}
 IsFresh (at_least place) = place ≤ max_number
 IsFresh (exact place) = place ≤ max_number
 
--- what is asked lies within its limits
+-- what is asked is within its limits
 abbrev pub IsInLimits : Request → Type 0
 IsInLimits (requests.Write write) = Unit {0}
 IsInLimits (requests.Read fresh sets) = IsFresh fresh × (1 ≤ length sets.items) × (length sets.items ≤ max_asked)
 IsInLimits (requests.Check fresh tuple) = IsFresh fresh
 IsInLimits (requests.Watch cursor limit names) = (cursor ≤ max_number) × (1 ≤ limit) × (limit ≤ max_watched) × (1 ≤ length names.items) × (length names.items ≤ max_asked)
 
--- the node of this name is there in a store of so many shards
+-- the node of this name is there in a store of this many shards
 abbrev pub IsNodeThere : ℕ → NodeName → Type 0
 IsNodeThere shards Coordinator = Unit {0}
 IsNodeThere shards (Shard s) = s < shards

@@ -6,7 +6,7 @@ use Rattle.cluster.specs.declared.flow.Flow.TheVariants.{Write, Read, Check, Wat
 use Rattle.cluster.specs.declared.flow.Writing.{Writing}
 use Rattle.cluster.specs.Flows.{NamesNext}
 
--- A write goes out by its flow, or on to its end where it is decided, and nothing more is told of it. A cancel makes no call.
+-- A write goes out by its flow, or on to its end if it is decided, and nothing more is reported of it. A cancel makes no call.
 pub record CancelsWrite (old new : Writing) : Type 0 where
   pub marked : new.is_cancelled ≡ true
   pub shards : new.flow.shards ≡ old.flow.shards
@@ -24,7 +24,7 @@ Cancels (Check old) new = new ≡ None
 Cancels (Watch old) new = new ≡ None
 Cancels (Care old) new = new ≡ None
 
--- what is left of a flow that goes on or not
+-- what is left of a flow, whether it goes on or not
 abbrev pub left_of : Bool → Flow → Option Flow
 left_of true flow = Some flow
 left_of false flow = None

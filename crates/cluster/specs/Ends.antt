@@ -1,4 +1,4 @@
--- What is told of a flow that has ended.
+-- What is reported of a flow that has ended.
 use Rattle.std.specs.Prelude.{◌≡◌, Option, Some, None}
 use Rattle.commit_flow.specs.declared.end.WriteEnd.{WriteEnd}
 use Rattle.commit_flow.specs.declared.end.WriteEnd.TheVariants as write_ends
@@ -17,7 +17,7 @@ use Rattle.cluster.specs.declared.event.What.TheVariants.{Ended, Refused}
 use Rattle.cluster.specs.declared.flow.Flow.{Flow}
 use Rattle.cluster.specs.declared.flow.Flow.TheVariants.{Write, Read, Check, Watch, Care}
 
--- a write has a place, or was refused; of one that was cancelled nothing is told
+-- a write has a place, or was refused; nothing is reported of one that was cancelled
 abbrev pub TellsWrite : WriteEnd → Option What → Type 0
 TellsWrite (write_ends.Wrote place) told = told ≡ Some (Ended (answers.Wrote place))
 TellsWrite (write_ends.Refused e) told = told ≡ Some (Refused e)
@@ -40,18 +40,18 @@ TellsWatch (listed place events) (Some (Ended (answers.Listed at all))) = (at �
 TellsWatch (watch_views.refused e) told = told ≡ Some (Refused e)
 TellsWatch end told = ⊥
 
--- a care is done, or tells what became of each write; or was refused
+-- a care is done, or reports what became of each write; or was refused
 abbrev pub TellsCare : CareEnd → Option What → Type 0
 TellsCare care_ends.Done told = told ≡ Some (Ended answers.Done)
 TellsCare (care_ends.Resolved found) told = told ≡ Some (Ended (answers.Resolved found))
 TellsCare (care_ends.Refused e) told = told ≡ Some (Refused e)
 
--- what is told of a flow that has ended so; of one that has not ended nothing is told
+-- what is reported of a flow that ended so; nothing, if it has not ended
 abbrev pub IfEnded : {E : Type 0} → (E → Option What → Type 0) → Option E → Option What → Type 0
 IfEnded P None told = told ≡ None
 IfEnded P (Some end) told = P end told
 
--- This is told of it, by how it ended; and a resolution tells of each write that was in doubt, in their order.
+-- This is reported of it, by how it ended; a resolution reports on each write that was in doubt, in their order.
 abbrev pub EndsWith : Flow → Option What → Type 0
 EndsWith (Write w) told = IfEnded TellsWrite w.flow.seen.ended told
 EndsWith (Read v) told = IfEnded TellsRead v.seen.ended told

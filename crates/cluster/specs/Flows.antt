@@ -12,7 +12,7 @@ use Rattle.cluster.specs.declared.flow.Flow.{Flow}
 use Rattle.cluster.specs.declared.flow.Flow.TheVariants.{Write, Read, Check, Watch, Care}
 use Rattle.cluster.specs.declared.flow.Writing.{Writing}
 
--- The name of its next call; none where it has ended, and while a call is out.
+-- The name of its next call; none if it has ended, or while a call is out.
 abbrev pub next_name_of : Flow → Option CallName
 next_name_of (Write w) = w.flow.next_name
 next_name_of (Read v) = v.next_name
@@ -20,7 +20,7 @@ next_name_of (Check v) = v.next_name
 next_name_of (Watch v) = watch_views.next_name_of v.seen
 next_name_of (Care v) = cares.next_name_of v
 
--- nothing more is told of it
+-- nothing more is reported of it
 abbrev pub is_cancelled : Flow → Bool
 is_cancelled (Write w) = w.is_cancelled
 is_cancelled (Read v) = false
@@ -28,7 +28,7 @@ is_cancelled (Check v) = false
 is_cancelled (Watch v) = false
 is_cancelled (Care v) = false
 
--- a flow of a store of so many shards
+-- a flow of a store of this many shards
 abbrev pub IsOf : ℕ → Flow → Type 0
 IsOf shards (Write w) = w.flow.shards ≡ shards
 IsOf shards (Read v) = v.shards ≡ shards
@@ -36,13 +36,13 @@ IsOf shards (Check v) = v.shards ≡ shards
 IsOf shards (Watch v) = Unit {0}
 IsOf shards (Care v) = cares.IsThere shards v
 
--- A call comes next exactly where it has not ended and none is out.
+-- A call comes next exactly if it has not ended and none is out.
 pub record NamesNext {A E : Type 0} (name : Option CallName) (out : Option A) (end : Option E) : Type 0 where
   pub ended : (e : E) → end ≡ Some e → name ≡ None
   pub waits : (call : A) → out ≡ Some call → name ≡ None
   pub goes_on : end ≡ None → out ≡ None → name ≢ None
 
--- the name of its next call is told by what is seen of it
+-- what is seen of it gives the name of its next call
 abbrev pub IsNamed : Flow → Type 0
 IsNamed (Write w) = NamesNext w.flow.next_name w.flow.seen.awaited w.flow.seen.ended
 IsNamed (Read v) = NamesNext v.next_name v.seen.awaited v.seen.ended
@@ -50,12 +50,12 @@ IsNamed (Check v) = NamesNext v.next_name v.seen.awaited v.seen.ended
 IsNamed (Watch v) = Unit {0}
 IsNamed (Care v) = is_some (cares.next_name_of v) ≡ cares.has_next v
 
--- which call a write makes, the one that is told as its next, and what it is while that is out
+-- which call a write makes, the one named as its next, and what it is while that is out
 abbrev pub AsksWrite : Writing → NodeCall → Writing → Type 0
 AsksWrite old call out = (old.flow.next_name ≡ Some (name_of call)) × (out.is_cancelled ≡ old.is_cancelled) × (out.flow.shards ≡ old.flow.shards)
     × writes.Asks old.flow.shards old.flow.seen call out.flow.seen
 
--- What the reply to the call that is out makes of a write: behind it none is out.
+-- What the reply to the call that is out makes of a write; after it none is out.
 abbrev pub GivesWrite : Writing → Reply → Writing → Type 0
 GivesWrite out reply later = (later.is_cancelled ≡ out.is_cancelled) × (later.flow.shards ≡ out.flow.shards)
     × MatchOption out.flow.seen.awaited ⊥ (λ awaited. write_replies.GivesTo out.flow.seen awaited reply later.flow.seen) × (later.flow.seen.awaited ≡ None)

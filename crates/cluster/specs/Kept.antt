@@ -4,7 +4,7 @@ use Rattle.cluster.specs.declared.flow.Flow.{Flow}
 use Rattle.cluster.specs.Flows.{IsOf, next_name_of}
 use Rattle.cluster.specs.Worlds.{WorldView, flow_at}
 
--- a flow of a store of so many shards, which makes a call next
+-- a flow of a store of this many shards, which makes a call next
 pub record IsRunning (shards : ℕ) (flow : Flow) : Type 0 where
   pub of : IsOf shards flow
   pub goes_on : is_some (next_name_of flow) ≡ true

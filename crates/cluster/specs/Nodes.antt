@@ -23,7 +23,7 @@ identity_of store shards Coordinator = record { store = store; shards = shards; 
 identity_of store shards (Shard s) = record { store = store; shards = shards; node = s }
 
 module _ {D : Type 0} (state : D → State) (honest : D → Type 0) (moment : D → ℕ) (left_since : D → ℕ → List ℕ → Type 0) where
-  -- The node has answered the call. Where it is not the one that the call names in a store of so many shards, the call is refused, and it is as before.
+  -- The node has answered the call. If it is not the one that the call names in a store of this many shards, the call is refused, and the node is as before.
   abbrev pub Answers : ℕ → NodeView D → NodeCall → Reply → NodeView D → Type 0
   Answers shards was call reply is = Answered state honest moment left_since was call reply is ⊎ ((IsNodeOf shards (node_of call) was → ⊥) × (is ≡ was) × Refuses Damaged call reply)
 
@@ -33,11 +33,11 @@ module _ {D : Type 0} (state : D → State) (honest : D → Type 0) (moment : D 
     pub answers : Answers shards was call reply is
     pub new_is : new ≡ slice_set old (index_of (node_of call)) is
 
-  -- One call, of the node that it names. Where there is none the call is refused, and no node has changed.
+  -- One call, of the node that it names. If there is none the call is refused, and no node has changed.
   abbrev pub Called : ℕ → List (NodeView D) → NodeCall → Reply → List (NodeView D) → Type 0
   Called shards old call reply new = MatchOption (node_at old (node_of call)) ((new ≡ old) × Refuses Damaged call reply) (λ was. AnsweredBy shards old was call reply new)
 
-  -- A device was revived: what a stop may have left is found; or it has failed once more, and keeps what it has.
+  -- A device was revived: what a stop may have left is found; or it has failed again, and keeps what it has.
   pub record IsRevived (old new : D) : Type 0 where
     pub still_honest : honest old ↔ honest new
     pub found : ((honest old → Revived (state old) (state new)) × ((state new).failures ≡ (state old).failures)) ⊎ ((honest old → Keeps (state old) (state new)) × Failed (state old) (state new))
@@ -53,7 +53,7 @@ module _ {D : Type 0} (state : D → State) (honest : D → Type 0) (moment : D 
   abbrev pub IsFound : D → D → Type 0
   IsFound old new = (honest old → Revived (state old) (state new)) × ((state new).failures ≡ (state old).failures)
 
-  -- A node was opened over two devices that were revived; or one of them failed once more, and it is not opened.
+  -- A node was opened over two devices that were revived; or one of them failed again, and the node is not opened.
   pub record Reopened (store shards : ℕ) (name : NodeName) (old_a old_b : D) (is : NodeView D) : Type 0 where
     pub a : D
     pub b : D

@@ -7,19 +7,19 @@ use Rattle.names.specs.declared.node_name.NodeName.TheVariants.{Coordinator, Sha
 use Rattle.cluster.specs.Nodes.{Reopened}
 use Rattle.cluster.specs.Worlds.{WorldView}
 
--- the node that stands at a place among the nodes
+-- the name of the node at a position among the nodes
 abbrev pub name_at : ℕ → NodeName
 name_at zero = Coordinator
 name_at (suc s) = Shard s
 
 module _ {D : Type 0} (state : D → State) (honest : D → Type 0) (moment : D → ℕ) (left_since : D → ℕ → List ℕ → Type 0) (store shards : ℕ) where
-  -- these nodes, the first of which stands at a place, were opened, each over the next two of these devices, which were revived
+  -- these nodes, from this position on, were opened, each over the next two of these devices, which were revived
   abbrev pub AreOpened : ℕ → List D → List (NodeView D) → Type 0
   AreOpened place [] [] = Unit {0}
   AreOpened place (a ∷ b ∷ devices) (is ∷ nodes) = Reopened state honest moment left_since store shards (name_at place) a b is × AreOpened (suc place) devices nodes
   AreOpened place devices nodes = ⊥
 
-  -- the node of this name was opened over the next two of these devices, and stands behind the others
+  -- the node of this name was opened over the next two of these devices, and stands after the others
   pub record OpensNext (name : NodeName) (old : List D) (old_nodes : List (NodeView D)) (new : List D) (new_nodes : List (NodeView D)) : Type 0 where
     pub a : D
     pub b : D

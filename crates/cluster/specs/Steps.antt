@@ -1,4 +1,4 @@
--- What one step does to a store, and what it tells.
+-- What one step does to a store, and what it reports.
 use Rattle.std.specs.Prelude.{◌≡◌, ◌≤◌, ◌<◌, ℕ, Bool, true, false, List, [], ◌∷◌, Option, Some, None, MatchOption, slice_set}
 use Rattle.tuples.specs.Limits.{max_flows}
 use Rattle.refusal.specs.declared.refusal.Refusal.{Refusal}
@@ -22,12 +22,12 @@ use Rattle.cluster.specs.Nodes.{Reopened}
 use Rattle.cluster.specs.Turns.{Turns}
 use Rattle.cluster.specs.Worlds.{Puts, WorldView, flow_at, flow_count, index_of, node_at}
 
--- nothing of a flow that was cancelled is told
+-- nothing is reported of a flow that was cancelled
 abbrev pub unless : Bool → Option What → Option What
 unless true told = None
 unless false told = told
 
--- what is told of a node that was opened: it is up, or refused
+-- what is reported of a node that was opened: it is up, or refused
 abbrev pub told_of_opening : Option Refusal → What
 told_of_opening None = Up
 told_of_opening (Some e) = Refused e
@@ -38,32 +38,32 @@ BeginsFlow (Start request) = Unit {0}
 BeginsFlow (care_for care) = Unit {0}
 BeginsFlow step = ⊥
 
--- a flow is put into a free slot, which is told
+-- a flow is put into a free slot, which is reported
 pub record AddsFlow (old : List (Option Flow)) (flow : Flow) (told : Option What) (new : List (Option Flow)) : Type 0 where
   pub slot : ℕ
   pub free : flow_at old slot ≡ None
   pub puts : Puts old slot (Some flow) new
   pub tells : told ≡ Some (Began slot)
 
--- A flow begins in a free slot; where as many run as may, it is refused. A flow that may not be asked for begins nowhere.
+-- A flow begins in a free slot; if as many run as may, it is refused. A flow that may not be asked for begins nowhere.
 pub record Begins (old : List (Option Flow)) (may : Type 0) (flow : Flow) (told : Option What) (new : List (Option Flow)) : Type 0 where
   pub nowhere : (may → ⊥) → (told ≡ None) × (new ≡ old)
   pub full : may → max_flows ≤ flow_count old → (told ≡ Some (Refused Full)) × (new ≡ old)
   pub begins : may → flow_count old < max_flows → AddsFlow old flow told new
 
--- A flow goes on in its slot, and its next call is told.
+-- A flow goes on in its slot, and its next call is reported.
 pub record GoesOn (old : List (Option Flow)) (slot : ℕ) (later : Flow) (name : CallName) (told : Option What) (new : List (Option Flow)) : Type 0 where
   pub puts : Puts old slot (Some later) new
   pub tells : told ≡ unless (is_cancelled later) (Some (Next name))
 
--- It makes no call more: how it ended is told, and its slot is free.
+-- It makes no more calls: how it ended is reported, and its slot is free.
 pub record HasGone (old : List (Option Flow)) (slot : ℕ) (later : Flow) (told : Option What) (new : List (Option Flow)) : Type 0 where
   pub end : Option What
   pub ends : EndsWith later end
   pub puts : Puts old slot None new
   pub tells : told ≡ unless (is_cancelled later) end
 
--- Behind its turn a flow goes on where a call of it comes next, and is gone where none does.
+-- After its turn a flow goes on if a call of it comes next, and is gone if none does.
 pub record Leaves (old : List (Option Flow)) (slot : ℕ) (later : Flow) (told : Option What) (new : List (Option Flow)) : Type 0 where
   pub named : IsNamed later
   pub leaves : MatchOption (next_name_of later) (HasGone old slot later told new) (λ name. GoesOn old slot later name told new)
@@ -81,7 +81,7 @@ module _ {D : Type 0} (state : D → State) (honest : D → Type 0) (moment : D 
     pub turns : Turns state honest moment left_since shards old flow new later
     pub leaves : Leaves old_flows slot later told new_flows
 
-  -- nothing is told, and nothing changes
+  -- nothing is reported, and nothing changes
   abbrev pub IsIdle : WorldView D → Option What → WorldView D → Type 0
   IsIdle old told new = (told ≡ None) × (new ≡ old)
 
@@ -93,11 +93,11 @@ module _ {D : Type 0} (state : D → State) (honest : D → Type 0) (moment : D 
   abbrev pub TurnsIn : WorldView D → ℕ → Flow → Option What → WorldView D → Type 0
   TurnsIn old slot flow told new = SlotTurns old.shards old.nodes old.flows slot flow told new.nodes new.flows × (new ≡ record old { nodes = new.nodes; flows = new.flows })
 
-  -- the flow in this slot is cancelled, which is told by nothing
+  -- the flow in this slot is cancelled, which is not reported
   abbrev pub CancelsIn : WorldView D → ℕ → Flow → Option What → WorldView D → Type 0
   CancelsIn old slot flow told new = SlotCancels old.flows slot flow new.flows × (told ≡ None) × (new ≡ record old { flows = new.flows })
 
-  -- the node of this name is opened again, which is told, and no other has changed
+  -- the node of this name is opened again, which is reported, and no other has changed
   pub record SlotRestarts (store shards : ℕ) (old : List (NodeView D)) (name : NodeName) (was : NodeView D) (told : Option What) (new : List (NodeView D)) : Type 0 where
     pub is : NodeView D
     pub reopened : Reopened state honest moment left_since store shards name (devices_of was).0 (devices_of was).1 is
@@ -107,7 +107,7 @@ module _ {D : Type 0} (state : D → State) (honest : D → Type 0) (moment : D 
   abbrev pub RestartsIn : WorldView D → NodeName → NodeView D → Option What → WorldView D → Type 0
   RestartsIn old name was told new = SlotRestarts old.store old.shards old.nodes name was told new.nodes × (new ≡ record old { nodes = new.nodes })
 
-  -- One step leads from one store to another, and tells this. A step that names no flow that runs, or no node that is there, is idle.
+  -- One step leads from one store to another, and reports this. A step that names no running flow, or no node that is there, is idle.
   abbrev pub Takes : WorldView D → Step → Option What → WorldView D → Type 0
   Takes old (Start request) told new = BeginsIn old (IsInLimits request) (begun_for old.shards request) told new
   Takes old (Turn slot) told new = MatchOption (flow_at old.flows slot) (IsIdle old told new) (λ flow. TurnsIn old slot flow told new)

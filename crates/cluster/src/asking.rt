@@ -8,7 +8,7 @@ use calls::{Node, NodeCall, Reply, Told, ask, refuse};
 use device::Device;
 use tuples::{Refusal, Shards};
 
-// Makes the call of this node. Nobody calls another than it names, but what the call carries has to be spent.
+// Makes the call of this node. Nobody calls a node that the call does not name, but what the call carries has to be spent.
 fn ask_one<D: Device>(shards: Shards, node: &mut Node<D>, call: NodeCall, told: &mut Told) -> Reply
     requires { IsOwed shards call }
     ensures answers { Answers D.state D.honest D.moment D.left_since shards node.old call result node.new }

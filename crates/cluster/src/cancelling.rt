@@ -7,7 +7,7 @@ ghost use Rattle.cluster.specs.Worlds.{flow_at};
 use crate::Flow;
 use slab::Slab;
 
-/// Cancels the flow in the slot. One of which no call comes next is gone.
+/// Cancels the flow in the slot. One without a next call is gone.
 pub(crate) fn cancel(flows: &mut Slab<Flow>, slot: usize)
     ensures cancels { MatchOption (flow_at flows.old.slots slot) (flows.new.slots ≡ flows.old.slots) (λ flow. SlotCancels flows.old.slots slot flow flows.new.slots) }
     ensures kept { (shards : ℕ) → AreFlows shards flows.old.slots → AreFlows shards flows.new.slots }
@@ -16,7 +16,7 @@ pub(crate) fn cancel(flows: &mut Slab<Flow>, slot: usize)
         return;
     };
     if flow.cancel() {
-        // The slot that was freed last is the next that is taken.
+        // The slot that was freed last is taken next.
         let _slot = flows.insert_reserved(flow);
     } else {
         let _ = flow.finish();

@@ -1,4 +1,4 @@
-// What is told of a flow that has ended.
+// What is reported of a flow that has ended.
 ghost use Rattle.std.specs.Prelude.{Some};
 ghost use Rattle.answer_flow.specs.ReadViews.{ending_of as read_ending};
 ghost use Rattle.answer_flow.specs.CheckViews.{ending_of as check_ending};
@@ -90,7 +90,7 @@ fn end_care(flow: CareFlow) -> Option<What>
 }
 
 impl Flow {
-    /// What is told of it, where it has ended; what it holds is spent.
+    /// What is reported of it, if it has ended; spends what it holds.
     pub(crate) fn finish(self) -> Option<What>
         ensures { EndsWith self result }
     {

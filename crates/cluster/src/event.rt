@@ -1,4 +1,4 @@
-// What steps tell.
+// What steps report.
 use care_flow::Resolved;
 use names::CallName;
 use tuples::{Refusal, Tuple, Version};
@@ -12,15 +12,15 @@ pub enum Answer {
     Selected(u64, Vec<Vec<Tuple>>),
     /// The place of a check, and whether the user is a member there.
     Checked(u64, bool),
-    /// The place up to which the changes of a watch are all, and these.
+    /// The place up to which the changes of a watch are complete, and these.
     Listed(u64, Vec<Version>),
     /// What became of each write that was in doubt.
     Resolved(Vec<Resolved>),
-    /// A care that tells no more.
+    /// A care that reports nothing more.
     Done,
 }
 
-/// What a step tells.
+/// What a step reports.
 #[derive(Drop)]
 pub enum What {
     /// A flow has begun in this slot.
@@ -35,7 +35,7 @@ pub enum What {
     Refused(Refusal),
 }
 
-/// What the step of this number told, in the list of steps that was run.
+/// What the step of this number reported, in the list of steps that was run.
 #[derive(Drop)]
 pub struct Event {
     pub step: usize,

@@ -8,7 +8,7 @@ use care_flow::CareFlow;
 use commit_flow::{WriteEnd, WriteFlow};
 use names::CallName;
 
-/// A write on its way, and whether it was cancelled: then nothing more is told of it.
+/// A write on its way, and whether it was cancelled: then nothing more is reported of it.
 pub struct Writing {
     pub(crate) flow: WriteFlow,
     pub(crate) is_cancelled: bool,
@@ -25,7 +25,7 @@ pub enum Flow {
 }
 
 impl Writing {
-    /// How it ended, where it has; what it holds is spent.
+    /// How it ended, if it has; spends what it holds.
     pub(crate) fn finish(self) -> Option<WriteEnd>
         ensures { result ≡ self.flow.seen.ended }
     {
@@ -36,7 +36,7 @@ impl Writing {
         flow.finish()
     }
 
-    /// It is cancelled, and goes out, or on to its end. Whether a call of it comes next.
+    /// Cancels it: it goes out, or on to its end. Returns whether a call of it comes next.
     pub(crate) fn cancel(&mut self) -> bool
         ensures cancels { CancelsWrite self.old self.new }
         ensures goes_on { result ≡ is_some self.new.flow.next_name }
@@ -47,7 +47,7 @@ impl Writing {
     }
 }
 
-// A store that is let go spends what its writes hold: what is prepared stays in doubt, as behind a stop.
+// A store that is dropped spends what its writes hold: what is prepared stays in doubt, as after a stop.
 impl Drop for Writing {
     fn drop(self) {
         let Writing {
@@ -59,7 +59,7 @@ impl Drop for Writing {
 }
 
 impl Flow {
-    /// The name of its next call; none where it has ended.
+    /// The name of its next call; none if it has ended.
     pub(crate) fn next_name(&self) -> Option<CallName>
         ensures name { result ≡ next_name_of self.now }
         ensures named { IsNamed self.now }
@@ -73,7 +73,7 @@ impl Flow {
         }
     }
 
-    /// Whether nothing more is told of it.
+    /// Whether nothing more is reported of it.
     pub(crate) fn is_cancelled(&self) -> bool
         ensures { result ≡ is_cancelled_flow self.now }
     {
@@ -83,7 +83,7 @@ impl Flow {
         }
     }
 
-    /// It is cancelled. Whether it goes on: a write does that was begun, on its way out or, where it is decided, to its end.
+    /// Cancels it. Returns whether it goes on: a begun write does, on its way out or, if it is decided, to its end.
     pub(crate) fn cancel(&mut self) -> bool
         ensures { Cancels self.old (left_of result self.new) }
     {

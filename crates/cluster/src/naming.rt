@@ -4,7 +4,7 @@ ghost use Rattle.cluster.specs.Worlds.{index_of};
 
 use names::NodeName;
 
-/// Its place among the nodes, the coordinator first.
+/// Its position among the nodes, the coordinator first.
 pub(crate) fn index_of(name: NodeName) -> usize
     ensures { result ≡ index_of name }
 {

@@ -83,7 +83,8 @@ fn open_all<D: Device>(
 }
 
 /// Opens the store of this number and of 1 to 64 shards over its devices: those of the coordinator, and then those of each shard, by rising number, bank a
-/// before bank b. Both are revived, and each node is up, or holds the refusal of its opening. Where memory is refused the devices come back untouched.
+/// before bank b. Both devices are revived, and each node is up, or holds the refusal of its opening. If memory is refused the devices come back
+/// untouched.
 pub fn reopen<D: Device>(
     alloc: Global,
     devices: Vec<D>,

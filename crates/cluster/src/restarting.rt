@@ -20,7 +20,7 @@ use records::Identity;
 use std::alloc::Global;
 use tuples::{Refusal, Shards};
 
-// Whether what a stop may have left of it was found. A device that fails even now answers only errors.
+// Revives a device: whether what a stop may have left of it was found. One that fails again answers only errors.
 fn revive<D: Device>(device: &mut D) -> bool
     ensures revived { IsRevived D.state D.honest D.moment D.left_since device.old device.new }
     ensures found { IsTrue result → IsFound D.state D.honest D.moment D.left_since device.old device.new }
@@ -63,7 +63,7 @@ fn stay_down<D: Device>(
     Node::stay_down(alloc, a, b, me)
 }
 
-/// Revives both devices, and opens the node of this name over them. Where one fails even now the node is not opened, and is `Down`.
+/// Revives both devices, and opens the node of this name over them. If one fails again the node is not opened, and is `Down`.
 pub(crate) fn reopen_node<D: Device>(
     alloc: Global,
     store: u64,
@@ -102,7 +102,7 @@ fn put_back<D: Device>(nodes: &mut Vec<Node<D>>, index: usize, node: Node<D>)
     let _ = nodes.insert(index, node);
 }
 
-/// Opens the node of this name again, if it is there, and tells whether it is up.
+/// Opens the node of this name again, if it is there, and reports whether it is up.
 pub(crate) fn restart<D: Device>(
     alloc: Global,
     store: u64,

@@ -9,7 +9,7 @@ use crate::{Event, Step, What, World};
 use device::Device;
 use std::alloc::AllocError;
 
-// Appends what a step told, under its number.
+// Appends what a step reported, under its number.
 fn append(events: &mut Vec<Event>, number: usize, told: Option<What>)
     requires { vec_len events.old < vec_capacity events.old }
     ensures { events.new.items ≡ events.old.items ++ events_of number told }
@@ -19,7 +19,7 @@ fn append(events: &mut Vec<Event>, number: usize, told: Option<What>)
     }
 }
 
-// Takes the step of this number, and appends what it tells.
+// Takes the step of this number, and appends what it reports.
 fn run_one<D: Device>(
     world: &mut World<D>,
     number: usize,
@@ -35,8 +35,8 @@ fn run_one<D: Device>(
     Ok(())
 }
 
-/// Takes the steps, one after another, and appends what they tell. Where memory is refused to a step, it answers the number of that step: the steps before
-/// it were taken, and told what they told, and it and those behind it were not.
+/// Takes the steps, one after another, and appends what they report. If memory is refused to a step, returns its number: the steps before it were taken,
+/// and their reports appended; it and those after it were not taken.
 pub fn run<D: Device>(
     world: &mut World<D>,
     steps: &[Step],

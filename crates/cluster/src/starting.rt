@@ -103,7 +103,7 @@ fn begin(alloc: Global, shards: Shards, request: &Request) -> Result<Flow, Alloc
     }
 }
 
-// Puts a flow that begins into a free slot, and tells which.
+// Puts a flow that begins into a free slot, and reports which.
 fn add(flows: &mut Slab<Flow>, flow: Flow) -> Option<What>
     requires { HasRoomFor flows.old 1 }
     ensures { AddsFlow flows.old.slots flow result flows.new.slots }
@@ -111,7 +111,7 @@ fn add(flows: &mut Slab<Flow>, flow: Flow) -> Option<What>
     Some(What::Began(flows.insert_reserved(flow)))
 }
 
-/// A flow for the request begins, where the request lies in its limits.
+/// A flow for the request begins, if the request is within its limits.
 pub(crate) fn start(
     alloc: Global,
     shards: Shards,
@@ -154,7 +154,7 @@ fn may_care(shards: Shards, care: Care) -> bool
     }
 }
 
-/// A flow for the care begins, where its node is there.
+/// A flow for the care begins, if its node is there.
 pub(crate) fn care_for(
     alloc: Global,
     shards: Shards,

@@ -56,7 +56,7 @@ impl<D: Device> World<D> {
         restart(self.alloc, self.store, self.shards, &mut self.nodes, name)
     }
 
-    /// Takes the step, and says what it tells. Where memory is refused nothing is changed; only a step that begins a flow takes any.
+    /// Takes the step, and says what it reports. If memory is refused nothing is changed; only a step that begins a flow takes any.
     pub fn take(&mut self, step: &Step) -> Result<Option<What>, AllocError>
         ensures ok { IfOk result (λ told. Takes D.state D.honest D.moment D.left_since self.old step.now told self.new) }
         ensures err { OnErr result (self.new ≡ self.old) }

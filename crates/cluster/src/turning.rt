@@ -22,7 +22,7 @@ fn unless(is_cancelled: bool, told: Option<What>) -> Option<What>
     told
 }
 
-// Puts a flow that was taken out back in its slot, or tells how it ended.
+// Puts a flow that was taken out back in its slot, or reports how it ended.
 fn leave(shards: Shards, flows: &mut Slab<Flow>, flow: Flow) -> Option<What>
     requires of { IsOf shards flow }
     requires room { HasRoomFor flows.old 1 }
@@ -34,7 +34,7 @@ fn leave(shards: Shards, flows: &mut Slab<Flow>, flow: Flow) -> Option<What>
     let is_cancelled = flow.is_cancelled();
     match flow.next_name() {
         Some(name) => {
-            // The slot that was freed last is the next that is taken.
+            // The slot that was freed last is taken next.
             let _slot = flows.insert_reserved(flow);
             unless(is_cancelled, Some(What::Next(name)))
         }
@@ -42,7 +42,7 @@ fn leave(shards: Shards, flows: &mut Slab<Flow>, flow: Flow) -> Option<What>
     }
 }
 
-/// The turn of the flow in the slot, and what is told of it.
+/// The turn of the flow in the slot, and what is reported of it.
 pub(crate) fn turn<D: Device>(
     shards: Shards,
     nodes: &mut [Node<D>],

@@ -17,7 +17,7 @@ use std::alloc::Global;
 use std::marker::Model;
 use tuples::{Refusal, Shards, Version};
 
-/// A store: its nodes over their devices, and the flows that run, each in a slot. It is made by `reopen`, and steps are taken by `run`.
+/// A store: its nodes over their devices, and the flows that run, each in a slot. `reopen` makes it, and `run` takes its steps.
 #[derive(Drop)]
 pub struct World<D: Device> {
     pub(crate) alloc: Global,
@@ -74,7 +74,7 @@ fn set_script<D: Device>(nodes: &mut [Node<D>], name: NodeName, bank: Bank, n: u
 }
 
 impl<D: Device> World<D> {
-    /// The next call of the flow in the slot; none where there is no flow.
+    /// The next call of the flow in the slot; none if there is no flow.
     pub fn next(&self, slot: usize) -> Option<CallName>
         ensures { MatchOption (flow_at self.now.flows slot) (result ≡ None) (λ flow. result ≡ next_name_of flow) }
     {
@@ -109,8 +109,8 @@ impl<D: Device> World<D> {
         node_of(&self.nodes, name)
     }
 
-    /// The versions that the shard has learned, by tuple and then by place. It is refused with `NoMemory`, and where the shard is down or its opening was
-    /// refused as the shard; and with `BadRequest` where there is no such shard.
+    /// The versions that the shard has learned, by tuple and then by place. Refused with `NoMemory`; with the shard's refusal if it is down or its
+    /// opening was refused; and with `BadRequest` if there is no such shard.
     pub fn rows(&self, shard: u8) -> Result<Vec<Version>, Refusal>
         ensures { MatchOption (node_at self.now.nodes (shard_name shard)) (result ≡ Err Refusal.BadRequest) (λ node. RowsOf D.state D.honest node result) }
     {

@@ -29,7 +29,7 @@ module _ (shards : ℕ) (w : Entry) where
   unfolding participants_below
   below_passes n passes = ap (λ (b : Bool). participants_below shards w n ++ (if b then n ∷ [] else [])) passes ∙ append-nil (participants_below shards w n)
 
-  -- where none takes part from a number on, there is none more
+  -- if none takes part from a number on, there are no more
   pub below_skips : (from n : ℕ) → from ≤ n → ((t : ℕ) → from ≤ t → t < n → takes_part shards t w ≡ true → ⊥) → participants_below shards w n ≡ participants_below shards w from
   unfolding participants_below
   below_skips from zero le none = let e : from ≡ 0 = omega (arith, le) in subst (λ (k : ℕ). participants_below shards w 0 ≡ participants_below shards w k) (sym e) refl
@@ -131,7 +131,7 @@ pub none_asked : (shards : ℕ) (w : Entry) (tickets : List (ℕ × TicketValue)
 unfolding participants_below
 none_asked shards w tickets none = ap ticket_shards none
 
--- and behind one that gave a ticket it is one more
+-- and after one that gave a ticket there is one more
 pub one_asked : (shards : ℕ) (w : Entry) (tickets : List (ℕ × TicketValue)) (s : ℕ) (t : TicketValue) → ticket_shards tickets ≡ participants_below shards w s → takes_part shards s w ≡ true
     → ticket_shards (tickets ++ (s, t) ∷ []) ≡ participants_below shards w (s + 1)
 one_asked shards w tickets s t asked takes =

@@ -49,7 +49,7 @@ end_of onward = Cancelled
 end_of (outward None) = Cancelled
 end_of (outward (Some e)) = Refused e
 
--- with a verdict it goes on to drop the write where a shard gave something, and ends where none did
+-- with a verdict it goes on to drop the write at a shard that gave something, and ends if there is none
 abbrev pub GoesToDrop : WriteView → WriteId → WriteView → Type 0
 GoesToDrop v id after = GoesOn (record v.holds { verdict = Some id }) after ⊎ ((v.holds.tickets ≡ []) × (v.holds.votes ≡ []) × (after ≡ view_ended (end_of v.holds.way)))
 
@@ -57,7 +57,7 @@ abbrev pub BeginGives : WriteView → Result IntentValue Refusal → WriteView �
 BeginGives v (Ok i) after = GoesOn (record v.holds { id = Some i.write.id; intent = Some i }) after
 BeginGives v (Err e) after = after ≡ view_ended (Refused e)
 
--- what progress of the catch-up of a shard makes of it: only behind it the shard is to prepare
+-- what progress in the catch-up of a shard makes of it: only once that is done is the shard to prepare
 abbrev pub ProgressGives : WriteView → ℕ → progresses.Progress → WriteView → Type 0
 ProgressGives v s (Next c) after = GoesOn (record v.holds { batch = c.batch }) after
 ProgressGives v s There after = GoesToPrepare s (record v.holds { batch = None }) after
@@ -78,7 +78,7 @@ PrepareGives v s again i (Ok t) after = GoesOn (record v.holds { intent = Some i
 PrepareGives v s again i (Err e) after = (e ≡ Full → again ≡ false → GoesToPrepare s (record v.holds { intent = Some i }) after)
     × ((e ≢ Full) ⊎ (again ≡ true) → GoesOut (record v.holds { intent = Some i }) e after)
 
--- A flush before a decision is refused as the call behind it would be. Where it was one of a node that was full, the call behind it is the last of its kind.
+-- A flush before a decision is refused as the call after it would be. If the node was full, the call after it is the last of its kind.
 abbrev pub FlushGives : WriteView → Bool → Result (Unit {0}) Refusal → WriteView → Type 0
 FlushGives v was_full (Ok done) after = after ≡ record (at_rest v.holds) { caught = v.caught; flushed = was_full }
 FlushGives v was_full (Err e) after = GoesOut v.holds e after
@@ -88,7 +88,7 @@ VoteGives v s (Yes vote) after = GoesOn (record v.holds { votes = v.holds.votes 
 VoteGives v s (votes_later t) after = GoesOn (record v.holds { tickets = ticket_value (s, t) ∷ v.holds.tickets }) after
 VoteGives v s (No e) after = GoesOut v.holds e after
 
--- what there is to do where a write was not decided
+-- what there is to do if a write was not decided
 abbrev pub NotDecidedGives : WriteView → Bool → Refusal → Option IntentValue → List VoteValue → WriteView → Type 0
 NotDecidedGives v again e None votes after = GoesOut (record v.holds { votes = votes }) e after
 NotDecidedGives v again e (Some i) votes after = (e ≡ Full → again ≡ false → GoesOn (record v.holds { intent = Some i; votes = votes }) after)
@@ -130,7 +130,7 @@ GivesTo v waits.inquire (Coordinator (told.Inquire r)) after = InquireGives v r 
 GivesTo v waits.drop_write (Shard (told_by.DropWrite verdict r)) after = GoesToDrop v verdict.id after
 GivesTo v awaited reply after = ⊥
 
--- The call that comes next where a node told that a flush has to come first, and behind that flush. So nothing is asked again before it can be answered.
+-- The call that comes next if a node answered that a flush has to come first, and after that flush. So nothing is asked again before it can be answered.
 abbrev pub ComesNext : WriteAwaited → Reply → Option CallName → Type 0
 ComesNext (waits.vote s) (Shard (told_by.Vote (votes_later t))) next = next ≡ Some names.Flush
 ComesNext (waits.flush_to_vote s) (Shard (told_by.Flush (Ok done))) next = next ≡ Some names.Vote

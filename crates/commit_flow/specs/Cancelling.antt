@@ -4,7 +4,7 @@ use Rattle.commit_flow.specs.declared.end.WriteEnd.TheVariants.{Cancelled}
 use Rattle.commit_flow.specs.WriteHolds.{onward, outward}
 use Rattle.commit_flow.specs.Views.{WriteView, at_rest, view_ended}
 
--- it is on its way, and neither decided nor waits for a reply
+-- it is on its way, is not decided and waits for no reply
 pub record IsUndecided (v : WriteView) : Type 0 where
   pub way : v.holds.way ≡ onward
   pub decided : v.holds.decided ≡ None

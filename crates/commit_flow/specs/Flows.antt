@@ -3,7 +3,7 @@ use Rattle.std.specs.Prelude.{ℕ, Option}
 use Rattle.names.specs.declared.call_name.CallName.{CallName}
 use Rattle.commit_flow.specs.Views.{WriteView}
 
--- in a store of so many shards, with the name of its next call, if there is one
+-- in a store of this many shards, with the name of its next call, if there is one
 pub record WriteFlowValue : Type 0 where
   pub shards : ℕ
   pub seen : WriteView

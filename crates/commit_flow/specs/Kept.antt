@@ -1,4 +1,4 @@
--- What a flow of a store of so many shards keeps in each phase, beside what its values keep themselves.
+-- What a flow of a store of this many shards keeps in each phase, beside what its values keep themselves.
 use Rattle.std.specs.Prelude.{◌≡◌, ℕ, [], Option, Some, None}
 use Rattle.std.specs.Vec.{vec_len}
 use Rattle.commit_flow.specs.declared.load.Load.{Load}
@@ -10,11 +10,11 @@ use Rattle.commit_flow.specs.declared.phase.Phase.{Phase}
 use Rattle.commit_flow.specs.declared.phase.Phase.TheVariants as phases
 use Rattle.commit_flow.specs.Views.{view_of}
 
--- of a store of so many shards, and with nothing in it
+-- of a store of this many shards, and with nothing in it
 abbrev pub IsFresh : ℕ → Load → Type 0
 IsFresh n load = (load.shards ≡ n) × (load.tickets.items ≡ []) × (load.votes.items ≡ []) × (vec_len load.tickets ≡ 0) × (vec_len load.votes ≡ 0)
 
--- of a store of so many shards
+-- of a store of this many shards
 abbrev pub IsReadyOf : ℕ → Ready → Type 0
 IsReadyOf n (ready.Begin write load) = IsFresh n load
 IsReadyOf n (ready.CatchUp p c) = (p.load.shards ≡ n) × (c.shard ≡ p.shard) × (c.to ≡ p.intent.kept)
@@ -55,6 +55,6 @@ abbrev pub IsIn : ℕ → Option Phase → Type 0
 IsIn n None = ⊥
 IsIn n (Some p) = IsPhaseOf n p
 
--- behind a reply it waits for no other
+-- after a reply it waits for no other
 abbrev pub IsBehindOf : ℕ → Phase → Type 0
 IsBehindOf n p = IsPhaseOf n p × ((view_of p).awaited ≡ None)

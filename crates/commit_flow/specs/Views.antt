@@ -1,4 +1,4 @@
--- What a write flow is seen as, of its phase.
+-- What is seen of a write flow's phase.
 use Rattle.std.specs.Prelude.{ℕ, Bool, false, List, [], ◌∷◌, ◌++◌, map, Option, Some, None}
 use Rattle.tuples.specs.declared.entry.WriteId.{WriteId}
 use Rattle.tuples.specs.Writes.{WriteValue}
@@ -58,7 +58,7 @@ abbrev pub in_hand : Option (ℕ × TicketValue) → List HeldTicket
 in_hand None = []
 in_hand (Some t) = ticket_value t ∷ []
 
--- what a write holds that goes out
+-- what a write that goes out holds
 abbrev pub holds_leaving : Leaving → Option IntentValue → List HeldTicket → List VoteValue → Option WriteId → WriteHolds
 holds_leaving l intent tickets votes verdict = record {
   way = outward l.met;
@@ -80,7 +80,7 @@ abbrev pub as_votes : Held → List VoteValue
 as_votes (Ticket t) = []
 as_votes (held_vote v) = v ∷ []
 
--- where a write went that has ended
+-- where a write that has ended was heading
 abbrev pub way_to : WriteEnd → Way
 way_to (Wrote place) = onward
 way_to (Refused e) = outward (Some e)
@@ -200,7 +200,7 @@ flushed_of (ready.Abort i l) = false
 flushed_of (ready.Inquire l) = false
 flushed_of (ready.DropWrite v l s h) = false
 
--- the same of the call that is out
+-- the same for the call that is out
 abbrev pub flushed_out : Out → Bool
 flushed_out (out.Begin load) = false
 flushed_out (out.CatchUp p c) = false
@@ -216,7 +216,7 @@ flushed_out (out.Abort l) = false
 flushed_out (out.Inquire l) = false
 flushed_out (out.DropWrite l) = false
 
--- a write that was begun, between two calls, where no shard is to prepare and no node was flushed
+-- a write that was begun, between two calls, if no shard is to prepare and no node was flushed
 abbrev pub at_rest : WriteHolds → WriteView
 at_rest holds = record { write = None; holds = holds; caught = None; flushed = false; awaited = None; ended = None }
 

@@ -3,8 +3,7 @@ use Rattle.std.specs.Prelude.{ℕ, Bool}
 pub use Rattle.decisions.specs.Flows.{HeldTicket, HeldVote, Way, onward, outward, WriteHolds, nothing_begun}
 use Rattle.catch_up.specs.Held.{Awaited}
 
--- The call that is out: each with the shard that it is of, and whether it is made again behind a flush; a prepare with the bits of all shards that take
--- part in the write.
+-- The call that is out: each with its shard, and whether it is made again after a flush; a prepare with the bits of all participants of the write.
 pub data WriteAwaited : Type 0 where
   begin : WriteAwaited
   catch_up : Awaited → WriteAwaited

@@ -47,7 +47,7 @@ abbrev pub GaveBelow : WriteView → ℕ → Type 0
 GaveBelow v s = ((t : HeldTicket) → Contains v.holds.tickets t → t.shard < s) × (v.holds.votes ≡ [])
 
 -- A call of the coordinator, by what it may be handed. A write is decided only on its way, by its intent and its votes, and never one that is decided; it is
--- aborted only on its way out. One that is full for the decision is flushed, and not twice.
+-- aborted only on its way out. A coordinator that is full for the decision is flushed, but not twice.
 abbrev pub AsksCoordinator : WriteView → CoordinatorCall → WriteView → Type 0
 AsksCoordinator v (calls.Begin write) after = ((v.write ≡ Some write) × (v.holds ≡ nothing_begun)) × (after ≡ record v { write = None; awaited = Some waits.begin })
 AsksCoordinator v calls.Heads after = ⊥
@@ -61,8 +61,8 @@ AsksCoordinator v (calls.Raise place settled) after = ⊥
 AsksCoordinator v calls.Checkpoint after = ⊥
 AsksCoordinator v calls.Flush after = (IsOnItsWay v × Waits v v.holds waits.flush_to_decide after × (v.flushed ≡ false)) ⊎ ((v.holds.way ≡ onward) × (v.holds.decided ≢ None) × Waits v v.holds waits.flush_to_outcome after)
 
--- A call of a shard, by what it may be handed: on its way one that takes part in the write, which prepares its part only where it is caught up, and
--- is asked for that once, or once more where it was full, and behind a flush no further time; on its way out one that gave a ticket or a vote.
+-- A call of a shard, by what it may be handed: on its way one that takes part in the write, which prepares its part only if it is caught up, and is
+-- asked for that once, or, if it was full, once more after a flush; on its way out one that gave a ticket or a vote.
 abbrev pub AsksShard : ℕ → WriteView → ℕ → ShardCall → WriteView → Type 0
 AsksShard shards v s shard_calls.Learned after = IsOnItsWay v × HasShard shards v s × Waits v v.holds (waits.catch_up learned) after
 AsksShard shards v s (shard_calls.Learn batch) after = IsOnItsWay v × HasShard shards v s × (v.holds.batch ≡ Some batch)

@@ -7,7 +7,7 @@ use decisions::{Intent, Vote};
 use std::marker::Model;
 use tuples::Shards;
 
-/// An intent with the votes of all shards that take part in it.
+/// An intent with the votes of all participants.
 pub(crate) struct Ballot {
     shards: Shards,
     intent: Intent,

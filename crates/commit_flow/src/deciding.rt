@@ -106,7 +106,7 @@ pub(crate) fn flushed_to_decide(alloc: Global, ballot: Ballot, answer: Result<()
     }
 }
 
-/// What became of the decision: it is kept, or has to be flushed first, or nobody knows.
+/// What became of the decision: it is kept, or has to be flushed first, or it is unknown.
 pub(crate) fn told(id: WriteId, outcome: Outcome) -> Phase
     ensures gives { OutcomeGives (view_out (outcome_out id)) outcome (view_of result) }
     ensures next { ComesNext awaits.outcome (replies.Coordinator (coordinator_replies.Outcome outcome)) (name_of result) }

@@ -13,7 +13,7 @@ use coordinator::Inquiry;
 use decisions::{Held, Verdict};
 use tuples::Refusal;
 
-/// How a write ends that goes out.
+/// How a write that goes out ends.
 pub(crate) fn end_by(met: Option<Refusal>) -> WriteEnd
     ensures { result ≡ end_of (outward met) }
 {

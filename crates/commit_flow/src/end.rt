@@ -4,7 +4,7 @@ use tuples::Refusal;
 /// How a write ended.
 #[derive(Clone, Copy, Debug, PartialEq, Eq)]
 pub enum WriteEnd {
-    /// It stands at this place, which every stop leaves.
+    /// It has this place, which every stop leaves.
     Wrote(u64),
     Refused(Refusal),
     /// It was cancelled before its decision.

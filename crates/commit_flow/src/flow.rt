@@ -20,7 +20,7 @@ use std::marker::Model;
 use tuples::{Refusal, Shards, Write};
 
 /// A write on its way: `begin`; each participant is caught up to the intent's place and prepares; each votes; `decide`; `outcome`. A refusal before the
-/// decision takes it out: `abort`, or `inquire` where the intent is spent, and with a verdict `drop_write` at each shard that gave something.
+/// decision takes it out: `abort`, or `inquire` if the intent is spent, and with a verdict `drop_write` at each shard that gave something.
 ///
 /// It has no `Drop`, since it holds what has to be spent: `finish` spends it.
 #[must_use]
@@ -44,7 +44,7 @@ impl Model for WriteFlow {
     ghost invariant = { λ f. IsIn f.shards f.phase };
 }
 
-// Puts a phase where one was taken out.
+// Puts a phase back.
 fn put(place: &mut Option<Phase>, phase: Phase)
     ensures { place.new ≡ Some phase }
 {
@@ -54,7 +54,7 @@ fn put(place: &mut Option<Phase>, phase: Phase)
 }
 
 impl WriteFlow {
-    /// To make this write in a store of so many shards. It takes all the room that the flow needs; `NoMemory`.
+    /// A flow for this write, in a store of this many shards. It takes all the room that it will need; `NoMemory`.
     pub fn new(alloc: Global, shards: Shards, write: Write) -> Result<WriteFlow, Refusal>
         ensures ok { IfOk result (λ f. f ≡ record { shards = shards; seen = record { write = Some write; holds = nothing_begun; caught = None; flushed = false; awaited = None; ended = None }; next_name = Some names.Begin }) }
         ensures err { IfErr result (λ e. e ≡ Refusal.NoMemory) }
@@ -67,7 +67,7 @@ impl WriteFlow {
         })
     }
 
-    /// The name of its next call. None where it has ended, and while a call is out.
+    /// The name of its next call. None if it has ended, or while a call is out.
     pub fn next_name(&self) -> Option<CallName>
         ensures name { result ≡ self.now.next_name }
         ensures ended { (end : _) → self.now.seen.ended ≡ Some end → result ≡ None }
@@ -80,7 +80,7 @@ impl WriteFlow {
         }
     }
 
-    /// Its next call, which has to be made, and the reply given. None where it has ended, and while a call is out.
+    /// Its next call, which has to be made, and the reply given. None if it has ended, or while a call is out.
     pub fn next_call(&mut self) -> Option<NodeCall>
         ensures shards { self.new.shards ≡ self.old.shards }
         ensures name { (option_map name_of_call result ≡ self.old.next_name) × (self.new.next_name ≡ None) }
@@ -105,7 +105,7 @@ impl WriteFlow {
         }
     }
 
-    /// What the reply to its call makes of it. It takes no memory.
+    /// What the reply to its call makes of it. It allocates nothing.
     pub fn give(&mut self, reply: Reply)
         requires { MayGive self.old.shards self.old.seen reply }
         ensures shards { self.new.shards ≡ self.old.shards }
@@ -124,7 +124,7 @@ impl WriteFlow {
         }
     }
 
-    /// Takes it out before its decision. After that, and while a call is out, nothing changes.
+    /// Takes it out before its decision. Later, and while a call is out, nothing changes.
     pub fn cancel(&mut self)
         ensures shards { self.new.shards ≡ self.old.shards }
         ensures cancels { Cancels self.old.seen self.new.seen }
@@ -136,7 +136,7 @@ impl WriteFlow {
         put(&mut self.phase, cancel(self.alloc, phase));
     }
 
-    /// How it ended, where it has.
+    /// How it ended, if it has.
     pub fn end(&self) -> Option<WriteEnd>
         ensures { result ≡ self.now.seen.ended }
     {
@@ -146,7 +146,7 @@ impl WriteFlow {
         }
     }
 
-    /// How it ended, where it has; what it holds is spent. A write that was begun and not decided stays open, and one that is prepared stays in doubt.
+    /// How it ended, if it has; spends what it holds. A write that was begun and not decided stays open, and a prepared one stays in doubt.
     pub fn finish(self) -> Option<WriteEnd>
         ensures { result ≡ self.seen.ended }
     {

@@ -1,4 +1,4 @@
-// Where a write is between two of its calls, and while one is out.
+// The phases of a write: between two of its calls, and while one is out.
 ghost use Rattle.std.specs.Prelude.{◌≡◌, ◌≤◌, ◌<◌, ◌+◌, ◌++◌, ◌∷◌, [], true};
 ghost use Rattle.std.specs.Vec.{vec_len};
 ghost use Rattle.tuples.specs.declared.entry.Entry.{Entry as AnyEntry};
@@ -13,7 +13,7 @@ use coordinator::Decided;
 use decisions::{Held, Intent, Ticket, Verdict, Vote};
 use tuples::{Refusal, Shards, Write, WriteId};
 
-/// The shards prepare their parts, one after another. This one's turn has come.
+/// The shards prepare their parts, one after another. It is this one's turn.
 pub(crate) struct Preparing {
     pub(crate) intent: Intent,
     pub(crate) load: Load,
@@ -27,7 +27,7 @@ pub(crate) struct Preparing {
     ghost own: { AreTicketsFor intent.write.id load.tickets.items },
 }
 
-/// The same, while the intent is out: the bits of the shards that take part stay here, so that the intent is known when it comes back.
+/// The same, while the intent is out: the bits of the participants stay here, so that the intent is known when it comes back.
 pub(crate) struct AskedPrepare {
     pub(crate) id: WriteId,
     pub(crate) load: Load,

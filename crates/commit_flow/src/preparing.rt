@@ -19,7 +19,7 @@ use catch_up::{CatchUp, CatchUpCall, Progress};
 use decisions::{Intent, Ticket};
 use tuples::Refusal;
 
-/// The next shard that takes part prepares its part; behind the last one they vote.
+/// The next participant prepares its part; after the last one they vote.
 pub(crate) fn prepare_next(intent: Intent, load: Load, from: u8) -> Ready
     requires few { vec_len load.tickets ≤ from }
     requires within { from ≤ load.shards }

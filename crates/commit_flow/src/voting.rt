@@ -18,7 +18,7 @@ use decisions::{Intent, Ticket};
 use shard::VoteReply;
 use tuples::Refusal;
 
-/// The write goes out: its intent is handed to the coordinator, and then what the shards gave to them.
+/// The write goes out: its intent is handed to the coordinator, and then each shard what it gave.
 pub(crate) fn go_out(
     intent: Intent,
     load: Load,
@@ -44,7 +44,7 @@ pub(crate) fn go_out(
     Ready::Abort(intent, leaving)
 }
 
-/// The next ticket becomes a vote; behind the last one the write is decided.
+/// The next ticket becomes a vote; after the last one the write is decided.
 pub(crate) fn vote_next(intent: Intent, mut load: Load) -> Ready
     requires room { vec_len load.tickets + vec_len load.votes ≤ load.shards }
     requires all { vote_shards load.votes.items ++ ticket_shards load.tickets.items ≡ participants_below load.shards intent.write load.shards }

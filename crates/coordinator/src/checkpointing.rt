@@ -1,6 +1,6 @@
 // A checkpoint of a coordinator, in place of all its records.
-ghost use Rattle.std.specs.Prelude.{◌≡◌, ◌⊎◌, ◌↔◌, ◌≤◌, ◌<◌, ◌+◌, [], Err, OnOk, IfErr, IsErrOf, true, false, length};
-ghost use Rattle.journal.specs.Ahead.{HasOldOrNewOr, HasPointCause, checkpoint_of};
+ghost use Rattle.std.specs.Prelude.{◌≡◌, ◌⊎◌, ◌↔◌, ◌≤◌, ◌<◌, ◌+◌, [], Err, OnErr, OnOk, IfErr, IsErrOf, true, false, length};
+ghost use Rattle.journal.specs.Ahead.{HasOldOrNewOr, HasPointCause, StaysOrGains, checkpoint_of};
 ghost use Rattle.journal.specs.Records.{HasRecords, LeavesEach};
 ghost use Rattle.records.specs.Checkpoints.{generation_of};
 ghost use Rattle.records.specs.Format.{AreRecords};
@@ -66,6 +66,7 @@ fn write<D: Device>(
     ensures cause { IsErrOf result Refusal.Down → (journal.old.is_down ≡ true) ⊎ HasPointCause D.state D.honest journal.old journal.new }
     ensures counts { ((D.state journal.old.a).failures ≤ (D.state journal.new.a).failures) × ((D.state journal.old.b).failures ≤ (D.state journal.new.b).failures) }
     ensures none { IsErrOf result Refusal.Down ⊎ (((D.state journal.new.a).failures ≡ (D.state journal.old.a).failures) × ((D.state journal.new.b).failures ≡ (D.state journal.old.b).failures)) }
+    ensures moved { OnErr result (StaysOrGains journal.old.end journal.old.staged journal.new.end) }
     ensures quiet { journal.old.is_down ≡ true → (result ≡ Err Refusal.Down) × (journal.new ≡ journal.old) }
     ensures last { D.honest journal.old.a → D.honest journal.old.b → journal.old.is_down ≡ false → greatest_number ≤ generation_of journal.old.durable → (result ≡ Err Refusal.Full) × (journal.new ≡ journal.old) }
 {
@@ -98,6 +99,9 @@ impl<D: Device> Coordinator<D> {
         ensures any_moment { IsRunning D.state D.honest self.old → LeavesEach D.moment D.left_since self.old.a self.old.b self.new.a self.new.b (HasOldNewOrPoint self.old) }
         ensures ok { IsRunning D.state D.honest self.old → OnOk result (IsRunning D.state D.honest self.new × (self.new.durable ≡ next_checkpoint self.old) × (self.new.staged ≡ []) × (self.new.is_down ≡ false)) }
         ensures keeps { KeepsOpen self.old self.new }
+
+        // Where it is refused, the list of the current bank ends where it did, or, after `Down`, behind what was staged.
+        ensures moved { OnErr result (StaysOrGains self.old.end self.old.staged self.new.end) }
 
         // Where it is down, no call is made, and behind the last generation none either.
         ensures down { self.old.is_down ≡ true → (result ≡ Err Refusal.Down) × (self.new ≡ self.old) }

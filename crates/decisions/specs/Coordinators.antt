@@ -1,5 +1,5 @@
--- A coordinator as its callers see it, and what each of its calls does, over lists of records alone: what stops leave, locks and logs are the
--- matter of whoever calls.
+-- A coordinator as its callers see it, and what each of its calls does, in terms of lists of records alone: what stops leave, locks and logs
+-- are the callers' matter.
 use Rattle.std.specs.Prelude.{◌≡◌, ◌≢◌, ◌⊎◌, ◌≤◌, ◌<◌, ◌+◌, ◌-◌, ℕ, min, Bool, false, true, List, [], ◌∷◌, ◌++◌, length, take, drop, All, AllPairs, Some, Contains, if◌then◌else◌, slice_get}
 use Rattle.refusal.specs.Refusals.{IsOneOf}
 use Rattle.tuples.specs.Limits.{max_batch, max_open}
@@ -22,7 +22,7 @@ use Rattle.decisions.specs.Standing.{DecidedValue}
 use Rattle.decisions.specs.Values.{BatchValue, HeadsValue, IntentValue, IsIntent, SettledValue, VoteValue}
 
 -- A coordinator over two devices: where the list of the current bank ends, what is durable, what is staged, whether a device failed since the opening, which node of which store it is;
--- and what lies in its memory alone: the ids of the writes that are open, the last of them first, and the last number that it gave.
+-- and what lies in its memory alone: the ids of its open writes, newest first, and the last number that it gave.
 pub record CoordinatorView (D : Type 0) : Type 0 where
   pub a : D
   pub b : D
@@ -54,7 +54,7 @@ pub record IsRunning {D : Type 0} (state : D → State) (honest : D → Type 0) 
   pub up : v.is_down ≡ false
   pub rest : HasRecords (state v.a) (state v.b) v.durable
 
--- one record more is staged, and nothing else is changed
+-- one more record is staged, and nothing else is changed
 abbrev pub StagesOne : {D : Type 0} → CoordinatorView D → Record → CoordinatorView D → Type 0
 StagesOne old r new = new ≡ record old { staged = old.staged ++ r ∷ [] }
 
@@ -67,7 +67,7 @@ without_id id (x ∷ xs) = if same_id x id then without_id id xs else x ∷ with
 abbrev pub next_id : {D : Type 0} → CoordinatorView D → WriteId
 next_id v = record { epoch = (memory_of v).epoch; number = v.given + 1 }
 
--- the condition names a place behind the last decision, staged ones among them
+-- the condition names a place after the last decision, staged ones included
 abbrev pub NamesFuture : {D : Type 0} → CoordinatorView D → Condition → Type 0
 NamesFuture v c = (place : ℕ) × (c.want ≡ NotAfter place) × (end_of (memory_of v) < place)
 
@@ -114,7 +114,7 @@ pub record IsVoteFor (shards : ℕ) (w : Entry) (v : VoteValue) : Type 0 where
   pub shard : v.shard < shards
   pub participant : takes_part shards v.shard w ≡ true
 
--- Exactly one vote of each shard that takes part in the write: each of them has voted for it, there is no other vote, and no shard voted twice.
+-- Exactly one vote of each participant: each of them has voted for the write, there is no other vote, and no shard voted twice.
 pub record HaveVoted (shards : ℕ) (w : Entry) (votes : List VoteValue) : Type 0 where
   pub each : (s : ℕ) → s < shards → takes_part shards s w ≡ true → (v : VoteValue) × Contains votes v × (v.shard ≡ s)
   pub own : All (IsVoteFor shards w) votes
@@ -141,7 +141,7 @@ pub record FlushesAll {D : Type 0} (old new : CoordinatorView D) : Type 0 where
   pub staged : new.staged ≡ []
   pub is_up : new.is_down ≡ false
 
--- what lies in memory alone, and which node it is, stays so, whatever became of the records
+-- what lies in memory alone, and which node it is, stay the same, whatever became of the records
 pub record KeepsOpen {D : Type 0} (old new : CoordinatorView D) : Type 0 where
   pub me : new.me ≡ old.me
   pub open_ids : new.open_ids ≡ old.open_ids
@@ -175,7 +175,7 @@ IsDecidedAbove v id = (j : ℕ) × (w : Entry) × (slice_get (memory_of v).log j
 abbrev pub IsGivenAt : {D : Type 0} → CoordinatorView D → WriteId → Type 0
 IsGivenAt v id = (id.epoch < (memory_of v).epoch) ⊎ ((id.epoch ≡ (memory_of v).epoch) × (id.number ≤ v.given))
 
--- asked for an id, it finds a durable decision at this place, above the horizon
+-- asked about an id, it finds a durable decision at this place, above the horizon
 pub record FindsAt {D : Type 0} (v : CoordinatorView D) (id : WriteId) (place : ℕ) : Type 0 where
   pub is_up : v.is_down ≡ false
   pub index : ℕ
@@ -185,20 +185,20 @@ pub record FindsAt {D : Type 0} (v : CoordinatorView D) (id : WriteId) (place : 
   pub place_is : place ≡ (kept_of v).base + index + 1
   pub above : (kept_of v).horizon < place
 
--- asked for an id that it gave, it finds no decision above the horizon, and no open write
+-- asked about an id that it gave, it finds no decision above the horizon, and no open write
 pub record FindsNone {D : Type 0} (v : CoordinatorView D) (id : WriteId) : Type 0 where
   pub is_up : v.is_down ≡ false
   pub given : IsGivenAt v id
   pub closed : Contains v.open_ids id → ⊥
   pub none : IsDecidedAbove v id → ⊥
 
--- asked for an id, it finds an open write, a decision that is staged, or an id that it never gave
+-- asked about an id, it finds an open write, a decision that is staged, or an id that it never gave
 pub record FindsNothingYet {D : Type 0} (v : CoordinatorView D) (id : WriteId) : Type 0 where
   pub is_up : v.is_down ≡ false
   pub not_kept : (place : ℕ) → FindsAt v id place → ⊥
   pub not_aborted : FindsNone v id → ⊥
 
--- the durable decisions behind a place, up to another, at most those of one batch
+-- the durable decisions after a place, up to another, at most those of one batch
 pub record BatchesAt {D : Type 0} (v : CoordinatorView D) (from to : ℕ) (b : BatchValue) : Type 0 where
   pub is_up : v.is_down ≡ false
   pub above : (kept_of v).horizon ≤ from
@@ -218,7 +218,7 @@ HaveSettled shards place settled = (s : ℕ) → s < shards → (x : SettledValu
 abbrev pub IsRising : {D : Type 0} → CoordinatorView D → ℕ → Type 0
 IsRising v place = (x : ℕ) × Contains v.staged (Horizon x) × (place ≤ x)
 
--- The horizon is raised to a place of the log: by one record more, or by one that is staged.
+-- The horizon is raised to a place of the log: by one more record, or by one that is staged.
 pub record RaisesAt {D : Type 0} (old : CoordinatorView D) (place : ℕ) (new : CoordinatorView D) : Type 0 where
   pub was_up : old.is_down ≡ false
   pub above : (kept_of old).horizon ≤ place
@@ -229,7 +229,7 @@ pub record RaisesAt {D : Type 0} (old : CoordinatorView D) (place : ℕ) (new : 
 abbrev pub coordinator_opening : Identity → List Record → Record
 coordinator_opening me rs = Epoch ((coordinator_state rs).epoch + 1) me.store me.shards me.node
 
--- A coordinator was opened over devices that held these records: they are a coordinator's, one opening more is durable, and no write is open.
+-- A coordinator was opened over devices that held these records: they are a coordinator's, one more opening is durable, and no write is open.
 pub record IsOpenedCoordinator {D : Type 0} (state : D → State) (honest : D → Type 0) (a b : D) (me : Identity) (new : CoordinatorView D) : Type 0 where
   pub rs : List Record
   pub was : found (state a).seen (state b).seen ≡ Some rs

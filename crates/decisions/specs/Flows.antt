@@ -6,7 +6,7 @@ use Rattle.tuples.specs.declared.tuple.Tuple.{Tuple}
 use Rattle.refusal.specs.declared.refusal.Refusal.{Refusal}
 use Rattle.decisions.specs.Values.{BatchValue, IntentValue, VoteValue}
 use Rattle.decisions.specs.Standing.{DecidedValue, HeadsValue, SettledValue}
--- at which place an answer is wanted: the kept one, one not below this place, or this place
+-- the place at which an answer is wanted: the kept one, one not below this place, or this place
 pub use Rattle.tuples.specs.declared.freshness.Freshness.{Freshness}
 pub use Rattle.tuples.specs.declared.freshness.Freshness.TheVariants.{Latest as latest, AtLeast as at_least, Exact as exact}
 
@@ -20,13 +20,13 @@ pub record HeldTicket : Type 0 where
 abbrev pub HeldVote : Type 0
 HeldVote = VoteValue
 
--- where a write flow goes: to its decision and its outcome, or out, with the refusal that it met or, where it was cancelled, with none
+-- where a write flow is heading: to its decision and its outcome, or out, with the refusal that it met or, if it was cancelled, with none
 pub data Way : Type 0 where
   onward : Way
   outward : Option Refusal → Way
 
--- A write flow: where it goes; the id of its write, once that was begun; the intent, the tickets and votes, and the decision, each while it
--- is not spent; decisions on their way to a shard; and the verdict on a write that was aborted.
+-- A write flow: where it is heading; the id of its write, once that was begun; the intent, the tickets and votes, and the decision, each
+-- until it is spent; decisions on their way to a shard; and the verdict on a write that was aborted.
 pub record WriteHolds : Type 0 where
   pub way : Way
   pub id : Option WriteId

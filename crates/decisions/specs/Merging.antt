@@ -6,7 +6,7 @@ use Rattle.tuples.specs.declared.tupleset.Tupleset.TheVariants.{Key, OfObject, O
 use Rattle.tuples.specs.Parts.{shard_of}
 use Rattle.tuples.specs.Reads.{AreAscending}
 
--- all tuples that meet the tupleset have one shard, this one
+-- all tuples that meet the tupleset are this shard's
 abbrev pub NeedsOnly : ℕ → Tupleset → ℕ → Type 0
 NeedsOnly shards (Key t) s = s ≡ shard_of shards t.object
 NeedsOnly shards (OfObject o relation) s = s ≡ shard_of shards o

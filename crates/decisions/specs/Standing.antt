@@ -16,11 +16,11 @@ pub record DecidedValue : Type 0 where
 abbrev pub IsPromised : (List Record → Type 0) → WriteId → Entry → Type 0
 IsPromised stops id part = (found : List Record) → stops found → find_in_doubt id (shard_state found).in_doubt ≡ Some part
 
--- A settled of a shard: it has learned up to the place.
+-- What a shard has settled: it has learned up to the place.
 abbrev pub IsSettled : (List Record → Type 0) → ℕ → Type 0
 IsSettled stops place = (found : List Record) → stops found → place ≤ (shard_state found).learned
 
--- a node was opened so often at least
+-- a node was opened at least this often
 abbrev pub IsShardEpoch : (List Record → Type 0) → ℕ → Type 0
 IsShardEpoch stops epoch = (found : List Record) → stops found → epoch ≤ (shard_state found).epoch
 

@@ -28,7 +28,7 @@ pub record IsIntent (write : Entry) : Type 0 where
   pub whole : IsWrite write.changes write.conditions
   pub places : AskOfLog write.conditions
 
--- by these records a coordinator that has given so many numbers since its opening gives this id next
+-- by these records a coordinator that has given this many numbers since its opening gives this id next
 abbrev pub IsNextId : List Record → ℕ → WriteId → Type 0
 IsNextId rs given id = id ≡ record { epoch = (coordinator_state rs).epoch; number = given + 1 }
 
@@ -41,12 +41,12 @@ pub record IsKeptEnd {D : Type 0} (state : D → State) (j : View D) (kept : ℕ
 abbrev pub IsBegunBy : {D : Type 0} → (D → State) → (D → Type 0) → View D → ℕ → WriteId → ℕ → Type 0
 IsBegunBy state honest j given id kept = honest j.a → honest j.b → IsNextId j.durable given id × IsKeptEnd state j kept
 
--- decisions behind a place, in the order of their places
+-- decisions after a place, in the order of their places
 pub record BatchValue : Type 0 where
   pub from : ℕ
   pub writes : List Entry
 
--- the writes stand one after another in what is known of a log, the first of them right behind the place
+-- the writes stand one after another in what is known of a log, the first of them right after the place
 pub record IsStretch (s : CoordinatorState) (from : ℕ) (writes : List Entry) : Type 0 where
   pub base : s.base ≤ from
   pub rest : List Entry
@@ -78,11 +78,11 @@ pub record TicketValue : Type 0 where
 abbrev pub IsHeldBy : {D : Type 0} → (D → Type 0) → View D → WriteId → Type 0
 IsHeldBy honest j id = honest j.a → honest j.b → is_some (find_in_doubt id (shard_state (j.durable ++ j.staged)).in_doubt) ≡ true
 
--- a shard with these records, durable and staged, was opened so often
+-- a shard with these records, durable and staged, was opened this often
 abbrev pub HasEpoch : {D : Type 0} → (D → Type 0) → View D → ℕ → Type 0
 HasEpoch honest j epoch = honest j.a → honest j.b → epoch ≡ (shard_state (j.durable ++ j.staged)).epoch
 
--- a vote: the write, and the shard where its prepare lies
+-- a vote: the write, and the shard that has its prepare
 pub record VoteValue : Type 0 where
   pub id : WriteId
   pub shard : ℕ
@@ -92,7 +92,7 @@ pub record SettledValue : Type 0 where
   pub shard : ℕ
   pub place : ℕ
 
--- whatever a stop leaves of the two devices has learned at least to the place
+-- whatever a stop leaves of the two devices has learned at least up to the place
 abbrev pub HasLearnedIn : {D : Type 0} → (D → State) → (D → Type 0) → D → D → ℕ → Type 0
 HasLearnedIn state honest a b place = honest a → honest b → (rs : List Record) → Finds (left (state a)) (left (state b)) rs → place ≤ (shard_state rs).learned
 
@@ -100,11 +100,11 @@ HasLearnedIn state honest a b place = honest a → honest b → (rs : List Recor
 pub record VerdictValue : Type 0 where
   pub id : WriteId
 
--- a coordinator that has given so many numbers since its opening has given this id, then or in an opening before
+-- a coordinator that has given this many numbers since its opening has given this id, since then or in an earlier epoch
 abbrev pub WasGiven : CoordinatorState → ℕ → WriteId → Type 0
 WasGiven s given id = (id.epoch < s.epoch) ⊎ ((id.epoch ≡ s.epoch) × (id.number ≤ given))
 
--- among the numbers of the writes that were begun since the opening and are still open there is not that of this one
+-- its number is not among those of the writes that were begun since the opening and are still open
 abbrev pub IsNotOpen : CoordinatorState → List ℕ → WriteId → Type 0
 IsNotOpen s numbers id = id.epoch ≡ s.epoch → Contains numbers id.number → ⊥
 

@@ -6,12 +6,12 @@ use Rattle.tuples.specs.declared.user.User.TheVariants.{Set}
 use Rattle.tuples.specs.Checking.{AreOnce, holding}
 use Rattle.decisions.specs.Flows.{CheckHolds}
 
--- one userset more, each once
+-- one more userset, each once
 pub record IsOneMore (old : List Userset) (y : Userset) (new : List Userset) : Type 0 where
   pub once : AreOnce new
   pub has : (z : Userset) → Contains new z ↔ (Contains old z ⊎ (z ≡ y))
 
--- A check has walked the first userset that waits, and lets those wait too that this one holds and that it has not met yet.
+-- A check has walked the first waiting userset; those that it holds and that the check has not met yet wait too.
 pub record Walks (y : Userset) (rows : List Tuple) (h next : CheckHolds) : Type 0 where
   pub heads : next.heads ≡ h.heads
   pub place : next.place ≡ h.place

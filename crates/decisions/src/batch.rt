@@ -9,7 +9,7 @@ use journal::Journal;
 use std::marker::Model;
 use tuples::Entry;
 
-/// The decisions behind a place, in the order of their places.
+/// The decisions after a place, in the order of their places.
 #[derive(Drop)]
 pub struct Batch {
     from: u64,
@@ -30,7 +30,7 @@ impl Model for Batch {
 }
 
 impl Batch {
-    /// For a coordinator, which shows by its journal that these are the decisions at the places from `from` + 1 on, and that every stop
+    /// Made by a coordinator whose journal shows that these are the decisions at the places from `from` + 1 on, and that every stop
     /// leaves them.
     pub fn from_log<D: Device>(journal: &Journal<D>, from: u64, writes: Vec<Entry>) -> Batch
         requires few { length writes.items ≤ max_batch }

@@ -23,7 +23,7 @@ impl Model for Heads {
 }
 
 impl Heads {
-    /// For a coordinator, which shows by its journal that every stop leaves what is durable, and that these are its numbers.
+    /// Made by a coordinator whose journal shows that every stop leaves what is durable, and that these are its numbers.
     pub fn new<D: Device>(journal: &Journal<D>, length: u64, kept: u64, horizon: u64) -> Heads
         requires heads { AreHeadsOf D.state D.honest journal.now (record { length = length; kept = kept; horizon = horizon }) }
         ensures { result ≡ record { length = length; kept = kept; horizon = horizon } }
@@ -36,7 +36,7 @@ impl Heads {
         }
     }
 
-    /// The number of decisions, staged ones among them.
+    /// The number of decisions, including staged ones.
     pub fn length(&self) -> u64
         ensures { result ≡ self.now.length }
     {

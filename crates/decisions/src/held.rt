@@ -5,7 +5,7 @@ ghost use Rattle.decisions.specs.Held.{held_id};
 use crate::{Ticket, Vote};
 use tuples::WriteId;
 
-/// What a shard gave for a prepare. It has no `Drop`, so it has to be handed to the shard or left.
+/// What a shard returned for a prepare. It has no `Drop`, so it has to go back to the shard or be left.
 #[must_use]
 #[derive(Debug)]
 pub enum Held {

@@ -28,7 +28,7 @@ impl Model for Intent {
 }
 
 impl Intent {
-    /// For a coordinator that has given the numbers 1 to `given` since its opening: it shows by its journal that the id comes next, and that
+    /// Made by a coordinator that has given the numbers 1 to `given` since its opening: its journal shows that the id comes next, and that
     /// `kept` is the place up to which every stop leaves the decisions. It has refused a write that asks about a place above its log.
     pub fn begin<D: Device>(
         journal: &Journal<D>,
@@ -75,7 +75,7 @@ impl Intent {
         self.kept
     }
 
-    /// The shards that take part in its write, in a store of so many: bit s for shard s.
+    /// The shards that take part in its write, in a store of this many: bit s for shard s.
     pub fn participants(&self, shards: Shards) -> u64
         ensures each { (s : ℕ) → IsBitSet result s ↔ (takes_part shards s self.now.write ≡ true) }
         ensures below { result < 2 ^ shards }
@@ -83,7 +83,7 @@ impl Intent {
         self.entry.participants(shards)
     }
 
-    /// Spends it, for its write.
+    /// Spends it, and returns its write.
     pub fn into_entry(self) -> Entry
         ensures value { result ≡ self.write }
         ensures whole { IsIntent self.write }

@@ -2,8 +2,8 @@
 //!
 //! Keeps: an `Intent` has a whole write, a `Vote` a prepare that every stop leaves, and each of them is spent once.
 //! Never: touches a device.
-//! Callers rely on: only who shows it by a journal can make an `Intent`, `Ticket`, `Vote`, `Settled`, `Verdict`, `Heads` or `Batch`; tests and
-//! measures get theirs from nodes.
+//! Callers rely on: it takes a journal that shows it to make an `Intent`, `Ticket`, `Vote`, `Settled`, `Verdict`, `Heads` or `Batch`; tests
+//! and measures get theirs from nodes.
 //!
 //! Start at `specs/Values.antt`, what each value is.
 #![tactic(auto)]

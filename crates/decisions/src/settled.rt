@@ -6,7 +6,7 @@ use device::Device;
 use journal::Journal;
 use std::marker::Model;
 
-/// Whatever a stop leaves of the shard has learned at least to the place.
+/// Whatever a stop leaves of the shard has learned at least up to the place.
 #[derive(Drop, Debug)]
 pub struct Settled {
     shard: u8,
@@ -22,7 +22,7 @@ impl Model for Settled {
 }
 
 impl Settled {
-    /// For a shard, which shows by its journal that the place is learned for good, and which shard it is.
+    /// Made by a shard whose journal shows that the place is learned for good, and which shard it is.
     pub fn new<D: Device>(journal: &Journal<D>, shard: u8, place: u64) -> Settled
         requires learned { HasLearnedIn D.state D.honest journal.now.a journal.now.b place }
         requires shard { IsOfNode D.honest journal.now shard }

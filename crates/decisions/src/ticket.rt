@@ -7,7 +7,7 @@ use journal::Journal;
 use std::marker::Model;
 use tuples::WriteId;
 
-/// A prepare was staged at a shard in this epoch of it. It has no `Drop`, so it has to go back to that shard or be left.
+/// A prepare was staged at a shard in this epoch. It has no `Drop`, so it has to go back to that shard or be left.
 #[must_use]
 #[derive(Debug)]
 pub struct Ticket {
@@ -24,7 +24,7 @@ impl Model for Ticket {
 }
 
 impl Ticket {
-    /// For a shard, which shows by its journal that the write is in doubt by what is durable and staged.
+    /// Made by a shard whose journal shows that the write is in doubt by what is durable and staged.
     pub fn new<D: Device>(journal: &Journal<D>, id: WriteId, epoch: u64) -> Ticket
         requires held { IsHeldBy D.honest journal.now id }
         requires epoch { HasEpoch D.honest journal.now epoch }
@@ -41,7 +41,7 @@ impl Ticket {
         self.id
     }
 
-    /// How often the shard was opened when it was made.
+    /// The shard's epoch when it was made.
     pub fn epoch(&self) -> u64
         ensures { result ≡ self.now.epoch }
     {

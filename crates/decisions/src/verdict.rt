@@ -7,8 +7,8 @@ use journal::Journal;
 use std::marker::Model;
 use tuples::WriteId;
 
-/// A write was aborted: its id was given out, it is not open, and no decision above the horizon has its id. It is only told: it may be
-/// dropped.
+/// A write was aborted: its id was given out, it is not open, and no decision above the horizon has its id. It only informs, and may
+/// be dropped.
 #[derive(Drop, Debug)]
 pub struct Verdict {
     id: WriteId,
@@ -23,9 +23,8 @@ impl Model for Verdict {
 }
 
 impl Verdict {
-    /// For a coordinator that has given the numbers 1 to `given` since its opening, with `still_open` those of its open writes: it shows by its journal
-    /// that the id was given out and is not open, and that no decision above the horizon has it, by what every stop leaves and by what is
-    /// staged.
+    /// Made by a coordinator that has given the numbers 1 to `given` since its opening, with `still_open` those of its open writes: its journal shows
+    /// that the id was given out and is not open, and that no decision above the horizon has it, by what every stop leaves and by what is staged.
     pub fn new<D: Device>(
         journal: &Journal<D>,
         given: u64,

@@ -25,7 +25,7 @@ impl Model for Vote {
 }
 
 impl Vote {
-    /// For a shard, which shows by its journal that the prepare is durable, and which shard it is.
+    /// Made by a shard whose journal shows that the prepare is durable, and which shard it is.
     pub fn new<D: Device>(journal: &Journal<D>, id: WriteId, shard: u8) -> Vote
         requires durable { IsPreparedIn D.state D.honest journal.now.a journal.now.b id }
         requires shard { IsOfNode D.honest journal.now shard }
@@ -43,7 +43,7 @@ impl Vote {
         self.id
     }
 
-    /// The shard where the prepare lies.
+    /// The shard that has the prepare.
     pub fn shard(&self) -> u8
         ensures { result ≡ self.now.shard }
     {

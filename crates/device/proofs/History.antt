@@ -17,7 +17,7 @@ pub run_push : (m : Image) (calls : List Call) (call : Call) → run m (calls ++
 run_push m [] call = refl
 run_push m (c ∷ calls) call = run_push (after c m) calls call
 
--- the image after one call more
+-- the image after one more call
 pub made_image : (first was : List ℕ) (calls more : List Call) (step : Image → Image) → first ≡ was → HasMade calls step more → replay first more ≡ step (replay was calls)
 made_image first was calls more step same made =
     ap (λ (l : List Call). replay first l) made.2
@@ -129,14 +129,14 @@ elapses_push first calls call = record {
     within : (k : ℕ) → (k ≤ length calls) ⊎ (length calls < k)
     within k = ⊎_elim (λ lt. inr lt) (λ le. inl le) (cases_lt (length calls) k)
 
--- time goes on by one call
+-- time passes by one call
 pub made_elapses : (first was : List ℕ) (calls more : List Call) (step : Image → Image) → first ≡ was → HasMade calls step more
     → Elapses (length calls) (length more) (LeftSince was calls) (LeftSince first more) (CouldLeave first more)
 made_elapses first was calls more step same made =
     subst (λ (f : List ℕ). Elapses (length calls) (length more) (LeftSince f calls) (LeftSince first more) (CouldLeave first more)) same
     (subst (λ (l : List Call). Elapses (length calls) (length l) (LeftSince first calls) (LeftSince first l) (CouldLeave first l)) (sym made.2) (elapses_push first calls made.0))
 
--- what reads after a call that was kept, or not for want of memory
+-- what reads after a call that was kept, or not for lack of memory
 pub kept_reads : (first : List ℕ) (calls more : List Call) (call : Call) (seen : List ℕ) (ok : Bool) → more ≡ cond ok (calls ++ call ∷ []) calls
     → (ok ≡ true → seen ≡ (after call (replay first calls)).seen) → (ok ≡ false → seen ≡ (replay first calls).seen) → seen ≡ (replay first more).seen
 kept_reads first calls more call seen true is new old = new refl ∙ sym (ap (λ (l : List Call). (replay first l).seen) is ∙ ap (λ (m : Image). m.seen) (run_push (all_durable first) calls call))
@@ -148,7 +148,7 @@ pub write_reads : (first seen bytes : List ℕ) (calls reserved : List Call) (at
 write_reads first seen bytes calls reserved at call reads same writes =
     ap (λ (s : List ℕ). patched s at bytes) (reads ∙ ap (λ (l : List Call). (replay first l).seen) (sym same)) ∙ sym (ap (λ (m : Image). m.seen) (writes (replay first reserved)))
 
--- the writes once more: what reads, what was durable before them, and their ranges
+-- the writes again: what reads, what was durable before them, and their ranges
 pub rewritten_push : (content : List ℕ) (calls : List Call) (call : Call) → rewritten content (calls ++ call ∷ []) ≡ rewritten (rewritten content calls) (call ∷ [])
 rewritten_push content [] call = refl
 rewritten_push content (Write at bytes ∷ calls) call = rewritten_push (patched content at bytes.items) calls call
@@ -222,7 +222,7 @@ replayed_found first first' content now calls calls' calls'' since tear same_fir
 pub reads_left_by : (first seen : List ℕ) (calls : List Call) → seen ≡ (replay first calls).seen → CouldLeave first calls seen
 reads_left_by first seen calls reads = subst (λ (s : List ℕ). CouldLeave first calls s) (sym reads) (replay_readable first calls)
 
--- no content is longer after a call that was kept, or not for want of memory
+-- no content is longer after a call that was kept, or not for lack of memory
 pub kept_longest : (first : List ℕ) (calls more : List Call) (call : Call) (seen : List ℕ) (ok : Bool) → more ≡ cond ok (calls ++ call ∷ []) calls
     → (ok ≡ true → reach (after call (replay first calls)).written (length (after call (replay first calls)).durable) ≤ length seen) → (ok ≡ false → NoneLonger first calls seen) → NoneLonger first more seen
 kept_longest first calls more call seen true is new old =

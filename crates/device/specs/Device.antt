@@ -1,8 +1,8 @@
 -- What a stop may leave of a device, and what its calls do.
 use Rattle.std.specs.Prelude.{◌≡◌, ◌⊎◌, ◌<◌, ◌≤◌, ◌+◌, ◌^◌, ◌-◌, ℕ, Bool, true, false, max, List, [], ◌∷◌, ◌++◌, length, take, drop, get_or}
 
--- the content as it reads, the content of the last sync, the ranges written since (place and length, oldest first),
--- whether an error has come since the last revive, and how many errors have come in all
+-- the content as it reads, the content of the last sync, the ranges written since (offset and length, oldest
+-- first), whether an error has come since the last revive, and how many errors have come in all
 pub record State : Type 0 where
   pub seen : List ℕ
   pub durable : List ℕ
@@ -29,7 +29,7 @@ pub record Leaves (durable : List ℕ) (written : List (ℕ × ℕ)) (content : 
 abbrev pub left : State → List ℕ → Type 0
 left s content = Leaves s.durable s.written content
 
--- old with these bytes at this place
+-- old with these bytes at this offset
 abbrev pub patched : List ℕ → ℕ → List ℕ → List ℕ
 patched old at bytes = take at old ++ bytes ++ drop (at + length bytes) old
 
@@ -57,7 +57,7 @@ pub record Keeps (old new : State) : Type 0 where
   pub durable : new.durable ≡ old.durable
   pub written : new.written ≡ old.written
 
--- one of the contents that a stop may have left is what reads, and is durable
+-- it reads as one of the contents that a stop may have left, and that is durable
 pub record Revived (old new : State) : Type 0 where
   pub found : left old new.seen
   pub durable : new.durable ≡ new.seen
@@ -72,7 +72,7 @@ pub record Failed (old new : State) : Type 0 where
   pub cause : HasFailed old new
   pub stopped : new.stopped ≡ true
 
--- Time goes on: a stop since t might have left what it might have left before, or what it may leave now.
+-- Time passes: a stop since t may have left what it could before, or what it may leave now.
 pub record Elapses (before now : ℕ) (past since : ℕ → List ℕ → Type 0) (leaves : List ℕ → Type 0) : Type 0 where
   pub later : before ≤ now
   pub nothing_else : (t : ℕ) (c : List ℕ) → t ≤ before → since t c → past t c ⊎ leaves c

@@ -31,32 +31,32 @@ left_since_of d t c = LeftSince d.first.items d.history.items t c
 abbrev pub calls_of : SimDisk → ℕ
 calls_of d = d.faults.calls
 
--- in how many calls from now on (from 1) one fails, and what is found then
+-- how many calls from now (from 1) one fails, and what is found then
 abbrev pub script_of : SimDisk → Option (ℕ × Tear)
 script_of d = d.faults.script
 
--- what is found after the failure that there is; none where it has not failed
+-- what is found after the current failure; none if it has not failed
 abbrev pub tear_of : SimDisk → Option Tear
 tear_of d = d.faults.tear
 
--- It is set to fail at the n-th call from now on, and that is found then.
+-- It will fail at the n-th call from now on, and that is found then.
 abbrev pub is_set_to_fail : SimDisk → ℕ → Tear → Type 0
 is_set_to_fail d n tear = script_of d ≡ Some (n, tear)
 
--- A call of `len`, `read_at`, `write_at` or `sync`: it is counted, and fails where the script names it. That script is then
--- gone, and another comes one call nearer. A script waits while the device is stopped.
+-- A call of `len`, `read_at`, `write_at` or `sync`: it is counted, and fails if the script names it. That script is then
+-- spent; another comes one call nearer. A script waits while the device is stopped.
 pub record FollowsScript {T E : Type 0} (old new : SimDisk) (result : Result T E) : Type 0 where
   pub counted : calls_of new ≡ min (calls_of old + 1) (2 ^ 64 - 1)
   pub strikes : (tear : Tear) → tear_of old ≡ None → IsDue (script_of old) tear → IsErr result × (script_of new ≡ None) × (tear_of new ≡ Some tear)
   pub waits : tear_of old ≡ None → IsLater (script_of old) → (script_of new ≡ nearer (script_of old)) × OnErr result (tear_of new ≡ Some Old)
   pub down : (tear : Tear) → tear_of old ≡ Some tear → (script_of new ≡ script_of old) × (tear_of new ≡ Some tear)
 
--- the last write that it was to make, if any, had no memory to be kept
+-- there was no memory to keep the last write, if any
 abbrev pub has_lost_of : SimDisk → Bool
 has_lost_of d = d.faults.is_lost
 
--- A write that the script strikes: whatever is found then is found as if the write had been done; or as if it had never been made, where there was
--- no memory to keep it.
+-- A write that the script strikes: what is found then is found as if the write had been done; or, if there was no memory to keep it, as if it had
+-- never been made.
 pub record IsStruck (old : SimDisk) (at : ℕ) (bytes : List ℕ) (new : SimDisk) : Type 0 where
   pub kept : has_lost_of new ≡ false → image_of new ≡ overwritten at bytes (image_of old)
   pub lost : has_lost_of new ≡ true → image_of new ≡ image_of old

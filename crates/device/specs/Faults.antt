@@ -18,7 +18,7 @@ abbrev pub nearer : Option (ℕ × Tear) → Option (ℕ × Tear)
 nearer None = None
 nearer (Some script) = Some (script.0 - 1, script.1)
 
--- what is found where no script says it
+-- what is found if no script says it
 abbrev pub or_old : Option Tear → Tear
 or_old None = Old
 or_old (Some tear) = tear

@@ -6,7 +6,7 @@ use Rattle.device.specs.declared.tear.Tear.TheVariants.{Old, New, Fill}
 use Rattle.device.specs.declared.call.Call.{Call}
 use Rattle.device.specs.declared.call.Call.TheVariants.{Write, Sync, Revive}
 
--- the content as it reads, the content of the last sync, and the ranges written since (place and length, oldest first)
+-- the content as it reads, the content of the last sync, and the ranges written since (offset and length, oldest first)
 pub record Image : Type 0 where
   pub seen : List ℕ
   pub durable : List ℕ
@@ -16,11 +16,11 @@ pub record Image : Type 0 where
 abbrev pub all_durable : List ℕ → Image
 all_durable content = record { seen = content; durable = content; written = [] }
 
--- one write more
+-- one more write
 abbrev pub overwritten : ℕ → List ℕ → Image → Image
 overwritten at bytes m = record { seen = patched m.seen at bytes; durable = m.durable; written = m.written ++ (at, length bytes) ∷ [] }
 
--- this byte in every place of the ranges
+-- this byte throughout the ranges
 abbrev pub filled : ℕ → List (ℕ × ℕ) → List ℕ → List ℕ
 filled byte [] content = content
 filled byte (range ∷ ranges) content = filled byte ranges (patched content range.0 (replicate range.1 byte))
@@ -57,6 +57,6 @@ NoneLonger first calls c = reach (replay first calls).written (length (replay fi
 abbrev pub LeftSince : List ℕ → List Call → ℕ → List ℕ → Type 0
 LeftSince first calls t c = (k : ℕ) × (t ≤ k) × (k ≤ length calls) × CouldLeave first (take k calls) c
 
--- one call more was made, and it did this
+-- one more call was made, and it did this
 abbrev pub HasMade : List Call → (Image → Image) → List Call → Type 0
 HasMade old step new = (call : Call) × ((m : Image) → after call m ≡ step m) × (new ≡ old ++ call ∷ [])

@@ -17,7 +17,7 @@ rewritten content (Write at bytes ∷ calls) = rewritten (patched content at byt
 rewritten content (Sync ∷ calls) = rewritten content calls
 rewritten content (Revive tear ∷ calls) = rewritten content calls
 
--- where they write
+-- the ranges that they write
 abbrev pub ranges : List Call → List (ℕ × ℕ)
 ranges [] = []
 ranges (Write at bytes ∷ calls) = (at, length bytes.items) ∷ ranges calls
@@ -28,7 +28,7 @@ ranges (Revive tear ∷ calls) = ranges calls
 abbrev pub unsynced : List ℕ → List Call → Image
 unsynced content calls = record { seen = rewritten content calls; durable = content; written = ranges calls }
 
--- after the first i calls this content is durable, and the calls from the place `since` on are the writes after it
+-- after the first i calls this content is durable, and the calls from the index `since` on are the writes after it
 pub record IsReplayed (first : List ℕ) (calls : List Call) (content : List ℕ) (since i : ℕ) : Type 0 where
   pub within : since ≤ i
   pub image : replay first (take i calls) ≡ unsynced content (drop since (take i calls))

@@ -8,7 +8,7 @@ use crate::Tear;
 use crate::call::Call;
 use std::alloc::{AllocError, Global};
 
-// Writes over what is there, and past the end; a place past the end stands for the end. Where memory runs out, nothing has changed.
+// Overwrites what is there, and extends past the end; an offset past the end counts as the end. If memory runs out, nothing has changed.
 pub(crate) fn patch(content: &mut Vec<u8>, at: usize, bytes: &[u8]) -> Result<(), AllocError>
     ensures { content.new.items ≡ (if is_ok result then patched content.old.items at bytes.now else content.old.items) }
 {
@@ -20,7 +20,7 @@ pub(crate) fn patch(content: &mut Vec<u8>, at: usize, bytes: &[u8]) -> Result<()
     Ok(())
 }
 
-// Makes the writes among these calls once more.
+// Makes the writes among these calls again.
 fn write_again(content: &mut Vec<u8>, calls: &[Call]) -> Result<(), AllocError>
     ensures { OnOk result (content.new.items ≡ rewritten content.old.items calls.now) }
 {
@@ -32,7 +32,7 @@ fn write_again(content: &mut Vec<u8>, calls: &[Call]) -> Result<(), AllocError>
     Ok(())
 }
 
-// Puts the byte into every place that these calls write.
+// Puts the byte into every offset that these calls write.
 fn fill(alloc: Global, content: &mut Vec<u8>, calls: &[Call], byte: u8) -> Result<(), AllocError>
     ensures { OnOk result (content.new.items ≡ filled byte (ranges calls.now) content.old.items) }
 {
@@ -44,7 +44,7 @@ fn fill(alloc: Global, content: &mut Vec<u8>, calls: &[Call], byte: u8) -> Resul
     Ok(())
 }
 
-// Of a durable content with these writes since, makes what is found after a failure.
+// Turns a durable content with these later writes into what is found after a failure.
 pub(crate) fn find(
     alloc: Global,
     content: &mut Vec<u8>,

@@ -9,25 +9,25 @@ use crate::Tear;
 #[derive(Clone, Copy, Debug, PartialEq, Eq)]
 pub struct Stopped;
 
-/// What stands for everything that is durable: bytes that a stop leaves as of the last sync, but for the ranges written since.
+/// Stable storage: a stop leaves its bytes as of the last sync, except in the ranges written since.
 ///
-/// Between two syncs each written range, and the part past the old end, may have any bytes after a stop, and the length may
+/// After a stop each range written since the last sync, and the part past the old end, may hold any bytes, and the length may
 /// lie anywhere between the old and the new. After an error the device answers only errors until `revive`.
 pub trait Device: Drop {
     /// What is stored, and what has failed.
     ghost state: { Self → State };
 
-    /// It keeps what the clauses below promise of it. Where it does not, they say nothing.
+    /// It keeps what the clauses below promise. If it does not, they say nothing.
     ghost honest: { Self → Type 0 };
 
-    /// The moment, as a number that does not fall.
+    /// The moment, a number that never falls.
     ghost moment: { Self → ℕ };
 
-    /// What a stop at some moment from that one on may leave, during a call or between two.
+    /// What a stop at that moment or a later one may leave, during a call or between two.
     ghost left_since: { Self → ℕ → List ℕ → Type 0 };
 
-    /// It is set to fail at the n-th call from now on (from 1) among `len`, `read_at`, `write_at` and `sync`, and what the
-    /// tear says is found then. A device that has no scripts, as a file, takes it as always true.
+    /// It will fail at the n-th call from now on (from 1) of `len`, `read_at`, `write_at` and `sync`, and what the tear
+    /// says is found then. For a device without scripts, such as a file, this is always true.
     ghost set_to_fail: { Self → ℕ → AnyTear → Type 0 };
 
     /// How many bytes there are.
@@ -41,7 +41,7 @@ pub trait Device: Drop {
         ensures down { (state self.old).stopped ≡ true → IsErr result × (honest self.old → Keeps (state self.old) (state self.new)) }
         ensures time { honest self.old → Elapses (moment self.old) (moment self.new) (left_since self.old) (left_since self.new) (left (state self.new)) };
 
-    /// Fills the buffer with the bytes from a place on, all of which lie inside.
+    /// Fills the buffer with the bytes from an offset on; all of them lie inside.
     fn read_at(&mut self, at: usize, buf: &mut [u8]) -> Result<(), Stopped>
         requires { honest self.old → (state self.old).stopped ≡ false → at + length buf.old ≤ length (state self.old).seen }
         ensures honest { honest self.old ↔ honest self.new }
@@ -53,7 +53,7 @@ pub trait Device: Drop {
         ensures down { (state self.old).stopped ≡ true → IsErr result × (honest self.old → Keeps (state self.old) (state self.new)) }
         ensures time { honest self.old → Elapses (moment self.old) (moment self.new) (left_since self.old) (left_since self.new) (left (state self.new)) };
 
-    /// Writes over what is there, and past the end; the place is at most the length.
+    /// Overwrites what is there, and extends past the end; the offset is at most the length.
     fn write_at(&mut self, at: usize, bytes: &[u8]) -> Result<(), Stopped>
         requires { honest self.old → (state self.old).stopped ≡ false → at ≤ length (state self.old).seen }
         ensures honest { honest self.old ↔ honest self.new }
@@ -86,15 +86,15 @@ pub trait Device: Drop {
         ensures err { OnErr result (Failed (state self.old) (state self.new)) }
         ensures time { honest self.old → Elapses (moment self.old) (moment self.new) (left_since self.old) (left_since self.new) (left (state self.new)) };
 
-    /// How many calls have failed so far; it stays at its greatest value.
+    /// The number of calls that have failed so far; it stays at its greatest value.
     fn failures(&self) -> u64
         ensures { result ≡ (state self.now).failures };
 
-    /// Whether it can be made so many bytes long, as far as that can be told. Where it answers so it may have taken the room, and others who write to the same
-    /// disk take none of it. It is advice: nothing that is stored changes, no failure is counted, and no clause holds the device to its answer.
+    /// Whether it can grow to this many bytes, as far as is known. If so it may have reserved the room, and others who write to the same disk take none of it.
+    /// It is advice: nothing that is stored changes, no failure is counted, and no clause holds the device to its answer.
     fn has_room(&self, len: usize) -> bool;
 
-    /// Sets a script in place of the one that there was, and changes nothing else.
+    /// Replaces the script, and changes nothing else.
     fn fail(&mut self, n: u64, tear: Tear)
         ensures set { set_to_fail self.new n tear }
         ensures honest { honest self.old ↔ honest self.new }
@@ -102,15 +102,15 @@ pub trait Device: Drop {
         ensures same { ((state self.new).failures ≡ (state self.old).failures) × ((state self.new).stopped ≡ (state self.old).stopped) }
         ensures time { honest self.old → Elapses (moment self.old) (moment self.new) (left_since self.old) (left_since self.new) (left (state self.new)) };
 
-    /// As it reads, an honest device is one of the contents that a stop may leave.
+    /// What an honest device reads as is one of the contents that a stop may leave.
     ghost reads_left: { (d : Self) → honest d → (state d).stopped ≡ false → left (state d) (state d).seen };
 
-    /// Of the contents that a stop may leave, none is longer than what an honest device reads as.
+    /// No content that a stop may leave is longer than what an honest device reads as.
     ghost reads_longest: { (d : Self) → honest d → (state d).stopped ≡ false → reach (state d).written (length (state d).durable) ≤ length (state d).seen };
 
-    /// This moment is one of those since an earlier one.
+    /// What may be left now may be left since any earlier moment.
     ghost counts_now: { (d : Self) (t : ℕ) (c : List ℕ) → honest d → t ≤ moment d → left (state d) c → left_since d t c };
 
-    /// Since this moment there is no other.
+    /// What is left since this moment may be left now.
     ghost only_now: { (d : Self) (c : List ℕ) → honest d → left_since d (moment d) c → left (state d) c };
 }

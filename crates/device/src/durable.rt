@@ -8,7 +8,7 @@ use crate::call::Call;
 use crate::content::find;
 use std::alloc::{AllocError, Global};
 
-// With which tear the call makes all durable that is there; a write does not.
+// The tear with which the call makes everything durable; none for a write.
 fn makes_durable(call: &Call) -> Option<Tear>
     ensures { MatchOption result (IsWrite call.now) (λ tear. (m : Image) → after call.now m ≡ all_durable (found tear m)) }
 {
@@ -19,7 +19,7 @@ fn makes_durable(call: &Call) -> Option<Tear>
     }
 }
 
-// What is durable after all these calls, and from which of them on they are the writes since.
+// What is durable after all these calls, and the index from which on the calls are the writes since.
 pub(crate) fn durable_after(
     alloc: Global,
     first: &[u8],

@@ -7,14 +7,14 @@ use crate::{Stopped, Tear};
 
 #[derive(Drop)]
 pub(crate) struct Faults {
-    // what is found after the failure that there is; none where there is no failure
+    // what is found after the current failure, if there is one
     pub(crate) tear: Option<Tear>,
     pub(crate) failures: u64,
-    // how many calls were made that a script counts, those on a stopped device too
+    // the number of calls that a script counts, those on a stopped device too
     pub(crate) calls: u64,
-    // in how many calls one fails, and what is found then
+    // how many calls from now one fails, and what is found then
     script: Option<(u64, Tear)>,
-    // the last write that was made had no memory to be kept
+    // there was no memory to keep the last write
     pub(crate) is_lost: bool,
 }
 
@@ -49,7 +49,7 @@ impl Faults {
         self.tear.is_some()
     }
 
-    // Counts a call. What it fails with, if it does: with the failure that there is, or with the script that names it.
+    // Counts a call. Returns what it fails with, if it does: the current failure, or the script that names it.
     pub(crate) fn count(&mut self) -> Option<Tear>
         ensures strikes { (tear : AnyTear) → self.old.tear ≡ None → IsDue self.old.script tear → (result ≡ Some tear) × (self.new.script ≡ None) }
         ensures waits { self.old.tear ≡ None → IsLater self.old.script → (result ≡ None) × (self.new.script ≡ nearer self.old.script) }
@@ -72,7 +72,7 @@ impl Faults {
         None
     }
 
-    // Counts a failure: from now on each call fails. Where no script says what is found, it is the content of the last sync.
+    // Counts a failure: from now on each call fails. If no script says what is found, it is the content of the last sync.
     pub(crate) fn stop(&mut self, tear: Option<Tear>) -> Stopped
         ensures script { self.new.script ≡ self.old.script }
         ensures tear { self.new.tear ≡ Some (or_old tear) }

@@ -83,10 +83,10 @@ impl Device for SimDisk {
         ensures time { Elapses (moment_of self.old) (moment_of self.new) (left_since_of self.old) (left_since_of self.new) (left (state_of self.new)) }
         ensures script { FollowsScript self.old self.new result }
 
-        // What is found behind it has it in its range, unless there was no memory to keep it.
+        // What is found after the failure has the write in its range, unless there was no memory to keep it.
         ensures struck { (tear : AnyTear) → tear_of self.old ≡ None → IsDue (script_of self.old) tear → IsStruck self.old at bytes.now self.new }
 
-        // Without a script it fails for want of memory alone, and nothing is written.
+        // Without a script it fails only for lack of memory, and nothing is written.
         ensures waits { tear_of self.old ≡ None → IsLater (script_of self.old) → OnErr result (Keeps (state_of self.old) (state_of self.new)) }
     {
         let is_stopped = self.faults.is_stopped();
@@ -156,7 +156,7 @@ impl Device for SimDisk {
         self.faults.failures
     }
 
-    // Its bytes are in memory, of which each write tells for itself.
+    // Its bytes are in memory; each write finds out for itself whether there is room.
     fn has_room(&self, _len: usize) -> bool {
         true
     }

@@ -11,9 +11,9 @@ use crate::durable::durable_after;
 use crate::faults::Faults;
 use std::alloc::{AllocError, Global};
 
-/// A disk in memory, of which a script says when it fails and what is found then.
+/// A disk in memory. A script says when it fails and what is found then.
 ///
-/// It keeps each call that changed what a stop may leave, and makes them once more to find what was durable. Every one is honest.
+/// It keeps each call that changed what a stop may leave, and replays them to find what was durable. Every such disk is honest.
 #[derive(Drop)]
 pub struct SimDisk {
     alloc: Global,
@@ -32,7 +32,7 @@ pub struct SimDisk {
 impl SimDisk {
     ghost use Rattle.device.specs.Disk.{state_of, calls_of, script_of, tear_of, has_lost_of, IsFresh};
 
-    /// A disk with this durable content, on which no call was made.
+    /// A disk with this durable content and no calls so far.
     pub fn new(alloc: Global, content: Vec<u8>) -> Result<SimDisk, AllocError>
         ensures fresh { IfOk result (λ d. IsFresh content.items (state_of d)) }
         ensures only { IfOk result (λ d. (c : List ℕ) → left (state_of d) c → c ≡ content.items) }
@@ -48,21 +48,21 @@ impl SimDisk {
         })
     }
 
-    /// How many calls of `len`, `read_at`, `write_at` and `sync` there were, those that failed too; it stays at its greatest value.
+    /// The number of calls of `len`, `read_at`, `write_at` and `sync`, those that failed too; it stays at its greatest value.
     pub fn calls(&self) -> u64
         ensures { result ≡ calls_of self.now }
     {
         self.faults.calls
     }
 
-    /// Whether the last write that it was to make had no memory to be kept. Then it failed, and is found behind no failure, whatever a script says.
+    /// Whether there was no memory to keep the last write. Then it failed, and is not found after any failure, whatever a script says.
     pub fn has_lost(&self) -> bool
         ensures { result ≡ has_lost_of self.now }
     {
         self.faults.is_lost
     }
 
-    // Writes, and keeps the write. Where memory runs out, nothing has changed.
+    // Writes, and keeps the write. If memory runs out, nothing has changed.
     pub(crate) fn store(&mut self, at: usize, bytes: &[u8]) -> Result<(), AllocError>
         requires { at ≤ length self.old.seen.items }
         ensures first { self.new.first.items ≡ self.old.first.items }
@@ -91,7 +91,7 @@ impl SimDisk {
         Ok(())
     }
 
-    // What the tear says is found, and durable. Where memory runs out, nothing has changed.
+    // What the tear says is found, and is durable. If memory runs out, nothing has changed.
     pub(crate) fn restore(&mut self) -> Result<(), AllocError>
         ensures first { self.new.first.items ≡ self.old.first.items }
         ensures seen { OnOk result (self.new.seen.items ≡ found (or_old self.old.faults.tear) (replay self.old.first.items self.old.history.items)) }

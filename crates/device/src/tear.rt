@@ -5,8 +5,8 @@
 pub enum Tear {
     /// The content of the last sync.
     Old,
-    /// With all writes since, that of the failing call included.
+    /// With all writes since, the failing call's too.
     New,
-    /// As `New`, with this byte in every place of the ranges written since.
+    /// As `New`, with this byte throughout the ranges written since.
     Fill(u8),
 }

@@ -112,7 +112,7 @@ module _ {D : Type 0} (state : D → State) (honest : D → Type 0) (moment : D 
     pub shows_known : Shown
     shows_known = by_node (node_at w.nodes (Shard s)) refl shown
 
-  -- Behind its telling, where the horizon is not above the place: each of its tuples that was there.
+  -- After its telling, if the horizon is not above the place: each of its tuples that was there.
   pub record Covers (s place : ℕ) (told : List Version) (before : ℕ → Type 0) (base new : WorldView D) (st : Stood base) : Type 0 where
     pub after : Stood new
     pub on : GoesOn st.now.machine after.now.machine

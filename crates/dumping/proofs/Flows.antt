@@ -42,7 +42,7 @@ first_of [] m = (m, refl, alone m [])
 first_of (f ∷ seen) m = (f, refl, alone f (seen ++ m ∷ []))
 
 module _ {D : Type 0} (state : D → State) (honest : D → Type 0) (moment : D → ℕ) (left_since : D → ℕ → List ℕ → Type 0) (keep : StepsKeep state honest moment left_since) (store shards : ℕ) (ids : List WriteId) where
-  -- a store that stands shows the world, and so much was told
+  -- a store that stands shows the world, and this much was told
   pub record Standing (w : WorldView D) : Type 0 where
     pub s : Store D
     pub now : Moment
@@ -56,7 +56,7 @@ module _ {D : Type 0} (state : D → State) (honest : D → Type 0) (moment : D 
   abbrev names_of : (w : WorldView D) → Standing w → ℕ → Type 0
   names_of w st = NamesHorizon state honest w.store w.shards st.s st.now
 
-  -- and so behind a step
+  -- and so after a step
   record Stepped (found : ℕ → Type 0) (now : Moment) (step : runs.Step) (told : List Told) (w : WorldView D) : Type 0 where
     later : Store D
     after : Moment
@@ -125,7 +125,7 @@ module _ {D : Type 0} (state : D → State) (honest : D → Type 0) (moment : D 
       subst (λ (n : Option CallName). CallGoesOn None n) no_next goes
 
   module _ (asked : Asked) (no_write : (changes : List Change) (conditions : List Condition) → asked ≡ to_write changes conditions → ⊥) (slot : ℕ) (base : Machine) where
-    -- what is so behind a turn that tells this
+    -- what is so after a turn that tells this
     abbrev After : Told → WorldView D → Type 0
     After (began s) w = ⊥
     After goes_on w = Flies asked slot base w
@@ -252,7 +252,7 @@ module _ {D : Type 0} (state : D → State) (honest : D → Type 0) (moment : D 
       by_cases x (inl (ok, inr full)) = absurd (let bad : began slot ∷ [] ≡ refuses Full ∷ [] = full.1 in cc)
       by_cases x (inr idle) = absurd (let bad : began slot ∷ [] ≡ [] = idle.1.0 in cc)
 
-  -- A step that begins a flow which is no write, and that is played to an answer: the answer agrees.
+  -- A step that begins a flow other than a write, and that is played to an answer: the answer agrees.
   pub played : (asked : Asked) → ((changes : List Change) (conditions : List Condition) → asked ≡ to_write changes conditions → ⊥) → (first : Step) → step_of first ≡ start asked → IsWholeStep first
       → (a : Answer) → told_by (answer_of a) ≡ [] → (old new : WorldView D) (st : Standing old) → Plays (Takes state honest moment left_since) IsNext first old (Some (Ended a)) new
       → Answered asked (answer_of a) st.now.machine new

@@ -1,4 +1,4 @@
--- Steps that look at a store, one behind the other.
+-- Steps that look at a store, one after another.
 use Rattle.std.proofs.Common.{◌≡◌, ◌++◌, ◌∷◌, [], ℕ, zero, suc, List, Option, Some, None, MatchOption, Result, refl, subst}
 use Rattle.std.specs.Global.{Vec}
 use Rattle.std.specs.List.{AllByRecursion}

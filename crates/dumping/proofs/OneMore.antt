@@ -1,4 +1,4 @@
--- One more tuple is read behind others.
+-- One more tuple is read after others.
 use Rattle.std.proofs.Common.{◌++◌, ℕ, List, [], ◌∷◌, Option, append_assoc, append-nil, refl, sym, ◌∙◌, ap, subst}
 use Rattle.cluster.specs.declared.event.What.{What}
 use Rattle.cluster.specs.declared.step.Step.{Step}

@@ -1,4 +1,4 @@
--- That what a dump tells is a snapshot: the statement of the law.
+-- A dump tells a snapshot: the statement of the law.
 use Rattle.std.specs.Prelude.{◌≡◌, ◌≤◌, ◌+◌, ◌*◌, ℕ, List, length, Option, All}
 use Rattle.cluster.specs.Openings.{IsOpenedOver}
 use Rattle.cluster.specs.Steps.{Takes}

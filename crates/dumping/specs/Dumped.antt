@@ -51,7 +51,7 @@ pub record GoesOn (a b : Machine) : Type 0 where
 module _ {D : Type 0} (state : D → State) (honest : D → Type 0) (moment : D → ℕ) (left_since : D → ℕ → List ℕ → Type 0) (store shards : ℕ) where
   -- Devices that rested at a machine were opened, which led to another machine by moves of an opening. The rows are the snapshot of its list: at the place
   -- that was asked for, or else at one that is no lower than all that was kept when it was opened. The place is kept, and not below the horizon from before.
-  -- No write was listed meanwhile, and closed behind the dump the devices rest again.
+  -- No write was listed meanwhile, and closed after the dump the devices rest again.
   pub record IsSnapshotOver (old : NodeName → D × D) (m : Machine) (ids : List WriteId) (asked : Option ℕ) (place : ℕ) (rows : List Tuple) (new : WorldView D) : Type 0 where
     pub opened : Machine
     pub from : IsOpenedFrom state honest moment left_since store shards old m opened
@@ -84,7 +84,7 @@ module _ {D : Type 0} (state : D → State) (honest : D → Type 0) (moment : D 
   abbrev pub IsDumped : List D → Option ℕ → Option (List ℕ) → Option (List ℕ) → Type 0
   IsDumped devices asked before after = (text : List ℕ) × IsTextOver devices asked text × Appends before after text
 
-  -- What is written where it was not: nothing, or a beginning of the text where the writer failed.
+  -- What is written if it was not: nothing, or a beginning of the text if the writer failed.
   abbrev pub Leaves : List D → Option ℕ → Option (List ℕ) → Option (List ℕ) → Fault → Type 0
   Leaves devices asked before after (Refused e) = after ≡ before
   Leaves devices asked before after Unwritten = (text : List ℕ) × IsTextOver devices asked text × HasBegun before after text

@@ -14,7 +14,7 @@ use Rattle.tuples.specs.declared.tupleset.Tupleset.{Tupleset}
 use Rattle.tuples.specs.declared.version.Version.{Version}
 use Rattle.dumping.specs.Gathering.{AllRead, AllTell, HasAll, Reads}
 
--- the place that is asked for, and the latest where none is
+-- the place that is asked for, or the latest if none is
 abbrev pub IsPlaceFor : Option ℕ → ℕ → ℕ → Type 0
 IsPlaceFor asked latest place = MatchOption asked (place ≡ latest) (λ p. place ≡ p)
 
@@ -33,7 +33,7 @@ module _ {S : Type 0} (takes : S → Step → Option What → S → Type 0) (nex
     pub second : IsReadAt (Exact place) mid at new
 
   module _ (shows : S → ℕ → Result (Vec Version) Refusal → Type 0) where
-    -- All shards tell their versions, the place is read once more, and then each tuple that they have a version of is read there.
+    -- All shards tell their versions, the place is read again, and then each tuple that they have a version of is read there.
     pub record FindsAll (shards place : ℕ) (old : S) (rows : List Tuple) (new : S) : Type 0 where
       pub told : List Version
       pub gathered : S

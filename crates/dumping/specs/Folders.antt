@@ -1,10 +1,10 @@
--- What was done where the store of a folder is dumped.
+-- What was done when the store of a folder was dumped.
 use Rattle.std.specs.Prelude.{ℕ, List, Option}
 use Rattle.node_files.specs.Devices.{AreOpened, HostDevice, is_honest, left_since_of, moment_of, state_of}
 use Rattle.dumping.specs.Dumped.{IsTextOver}
 
--- Two files for each node were opened, and this is the text of the store over them. Nothing is known of what standard output has, so that it was written there
--- is not said.
+-- Two files for each node were opened, and this is the text of the store over them. Nothing is known of what standard output has, so this does not say that
+-- the text was written there.
 pub record DumpsFiles (store shards : ℕ) (asked : Option ℕ) : Type 0 where
   pub devices : List HostDevice
   pub are_opened : AreOpened shards devices

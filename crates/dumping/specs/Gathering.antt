@@ -1,4 +1,4 @@
--- By which steps of a store a dump comes to its tuples.
+-- By which steps of a store a dump gets its tuples.
 use Rattle.std.specs.Prelude.{◌≡◌, ℕ, zero, suc, List, [], ◌∷◌, ◌++◌, Option, Some, None, MatchOption, Result, Ok, true, Contains}
 use Rattle.std.specs.Global.{Vec}
 use Rattle.cluster.specs.declared.event.Answer.TheVariants.{Done, Selected}
@@ -34,7 +34,7 @@ abbrev pub HasAll : List Tuple → List Version → Type 0
 HasAll keys told = (v : Version) → Contains told v → is_in keys (tuple_of v.change) ≡ true
 
 module _ {S : Type 0} (takes : S → Step → Option What → S → Type 0) (nexts : S → ℕ → Option CallName → Type 0) where
-  -- what has begun in a slot makes its calls to its end; where nothing has begun nothing follows
+  -- what has begun in a slot makes its calls to its end; if nothing has begun nothing follows
   abbrev pub PlaysOn : Option What → S → Option What → S → Type 0
   PlaysOn told mid last new = MatchOption (slot_of told) ((last ≡ told) × (new ≡ mid)) (λ slot. Goes takes nexts slot None mid last new)
 
@@ -53,7 +53,7 @@ module _ {S : Type 0} (takes : S → Step → Option What → S → Type 0) (nex
     pub told_is : rows_of told.items ≡ rows
     pub plays : Plays (Start (Read fresh asked)) old (Some (Ended (Selected place told))) new
 
-  -- each of these tuples is read at the place: the rows of all, one behind the other
+  -- each of these tuples is read at the place: the rows of all, one after another
   abbrev pub AllRead : ℕ → List Tuple → S → List Tuple → S → Type 0
   AllRead place [] old rows new = (rows ≡ []) × (new ≡ old)
   AllRead place (t ∷ keys) old rows new = (mid : S) × (at : ℕ) × (first rest : List Tuple) × Reads (Exact place) (Key t) old at (first ∷ []) mid × AllRead place keys mid rest new × (rows ≡ first ++ rest)
@@ -66,7 +66,7 @@ module _ {S : Type 0} (takes : S → Step → Option What → S → Type 0) (nex
       pub learns : Plays (care_for (Learn s)) old (Some (Ended Done)) new
       pub shown : shows new s (Ok listed)
 
-    -- and so does each of the first shards: the versions of all, one behind the other
+    -- so does each of the first shards: the versions of all, one after another
     abbrev pub AllTell : ℕ → S → List Version → S → Type 0
     AllTell zero old told new = (told ≡ []) × (new ≡ old)
     AllTell (suc s) old told new = (mid : S) × (before more : List Version) × AllTell s old before mid × TellsOne s mid more new × (told ≡ before ++ more)

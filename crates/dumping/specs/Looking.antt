@@ -13,7 +13,7 @@ abbrev pub IsWithin : Reach → Reach → Type 0
 IsWithin shard log = (log.horizon ≤ shard.place) × (shard.place ≤ log.place)
 
 module _ {D : Type 0} (state : D → State) (honest : D → Type 0) (nodes : List (NodeView D)) where
-  -- the node of this name is there, and reaches so far
+  -- the node of this name is there, and reaches this far
   abbrev pub ReachesAt : NodeName → Reach → Type 0
   ReachesAt name reach = MatchOption (node_at nodes name) ⊥ (λ node. Reaches state honest node (Ok reach))
 

@@ -14,7 +14,7 @@ use tuples::Shards;
 const FAILED: u8 = 1;
 
 /// Writes all tuples of the store that the folder keeps to standard output, at the place, or at the latest, and says on standard error why it did not:
-/// `zanstore: 13 Down` where a file can't be opened, or another process has it, and else the refusal of a node or of the place, with a second line on what
+/// `zanstore: 13 Down` if a file can't be opened, or another process has it, otherwise the refusal of a node or of the place, with a second line on what
 /// that is about if it is known; or `zanstore: output`. The status is 0 or 1.
 ///
 /// Nothing is written to the files, and none is made.
@@ -41,7 +41,7 @@ enum Failure {
     Unwritten,
 }
 
-// That the devices are over files of this folder no clause can say.
+// No clause can say that the devices are over files of this folder.
 fn write_folder(
     rt: &HostRuntime,
     folder: &str,
@@ -57,7 +57,7 @@ fn write_folder(
     }
 }
 
-// That the writer is the standard output no clause can say.
+// No clause can say that the writer is the standard output.
 fn write_devices(
     rt: &HostRuntime,
     folder: &str,
@@ -84,7 +84,7 @@ fn write_devices(
 fn tell(rt: &HostRuntime, failure: &Failure) -> u8
     ensures { result ≡ 1 }
 {
-    // A text that can't be printed changes nothing of the status.
+    // A text that can't be printed does not change the status.
     let _ = match failure {
         Failure::Refused(trouble) => eprintln!(rt; "{trouble}"),
         Failure::Unwritten => eprintln!(rt; "zanstore: output"),

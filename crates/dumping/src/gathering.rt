@@ -23,7 +23,7 @@ fn learn<S: Store>(store: &mut S, shard: u8) -> Result<(), Refusal>
 {
     match serve(store, Step::Care(Care::Learn(shard)))? {
         Answer::Done => Ok(()),
-        // To learn has no other answer.
+        // Learning has no other answer.
         _ => Err(Refusal::Damaged),
     }
 }

@@ -1,12 +1,12 @@
 //! All tuples of a store at one place, and their text.
 //!
 //! Keeps: the tuples are those that are there at the place, each once, ascending; the text is the token of the place and a line for each of them, and it is
-//! written behind the last call of a node.
+//! written after the last call of a node.
 //! Never: begins a write, raises a horizon, or opens a file.
-//! Callers rely on: what `dump_over` writes is the snapshot of the one list that the store stands for, and where it is refused nothing is written.
+//! Callers rely on: what `dump_over` writes is the snapshot of the one list that the store stands for, and if it is refused nothing is written.
 //!
-//! Start at `specs/Dumped.antt`, what a dump tells, and `over_devices.rt`; `specs/Gathering.antt` says by which steps of a store it comes to it,
-//! and `specs/Steps.antt` which steps are taken at all, also where it is refused.
+//! Start at `specs/Dumped.antt`, what a dump tells, and `over_devices.rt`; `specs/Gathering.antt` says by which steps of a store it gets there, and
+//! `specs/Steps.antt` which steps are taken at all, even if it is refused.
 #![tactic(auto)]
 
 mod dump_laws;

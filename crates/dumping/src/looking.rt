@@ -24,8 +24,8 @@ fn is_within(shard: Reach, log: Reach) -> bool
     log.horizon <= shard.place && shard.place <= log.place
 }
 
-/// Whether the nodes are all of one moment: `Damaged` where a shard has learned more than the coordinator keeps, or less than it has forgotten, and what is
-/// missing nobody could tell it. Before that what a node was refused with, the coordinator first and then the shards by rising number.
+/// Whether the nodes are all of one moment: `Damaged` if a shard has learned more than the coordinator keeps, or less than it has forgotten, since nobody
+/// could tell it what is missing. Before that the refusal of a node, the coordinator first and then the shards by rising number.
 pub(crate) fn look_over<D: Device>(world: &World<D>) -> Result<(), Refusal>
     ensures { OnOk result (AreOfOneMoment D.state D.honest world.now.nodes world.now.shards) }
 {

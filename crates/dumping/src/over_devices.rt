@@ -109,8 +109,8 @@ fn append_over<D: Device>(
 }
 
 /// Opens the store of this id and of 1 to 64 shards over its devices, as `reopen` does, and writes the text of all tuples that are there at the place, or at
-/// the latest: the token of the place, and each tuple, a line each. What `take_dump` is refused with, and before that what a node was, the coordinator first;
-/// `Damaged` where a shard has learned more than the coordinator keeps, or less than that has forgotten: the devices are not all of one moment.
+/// the latest: the token of the place, and each tuple, one per line. Refused as `take_dump` is, and before that as a node was, the coordinator first;
+/// `Damaged` if a shard has learned more than the coordinator keeps, or less than that has forgotten: the devices are not all of one moment.
 pub fn dump_over<D: Device, W: Write>(
     alloc: Global,
     store: u64,
@@ -123,7 +123,7 @@ pub fn dump_over<D: Device, W: Write>(
     ensures ok { OnOk result (IsDumped D.state D.honest D.moment D.left_since store shards devices.items at (W.contents output.old) (W.contents output.new)) }
     ensures err { IfErr result (Leaves D.state D.honest D.moment D.left_since store shards devices.items at (W.contents output.old) (W.contents output.new)) }
 {
-    // A law: it does nothing.
+    // A law: does nothing.
     dumps_are_snapshots::<D>();
     let _count = shards.count();
     let mut text = Vec::new(alloc);

@@ -38,7 +38,7 @@ fn run_out<S: Store>(store: &mut S, slot: usize) -> Result<Option<What>, Refusal
     Err(Refusal::NoMemory)
 }
 
-// The step is taken, and a flow that it begins makes its calls to its end; what was told last.
+// The step is taken, and a flow that it begins makes its calls to its end; returns what was told last.
 fn play<S: Store>(store: &mut S, first: Step) -> Result<Option<What>, Refusal>
     requires looking { IsLooking first }
     ensures ok { IfOk result (λ last. Plays S.takes S.nexts first store.old last store.new) }

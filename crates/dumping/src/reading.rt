@@ -15,7 +15,7 @@ use tuples::{Freshness, Refusal, Request, Tuple, Tupleset};
 // A tupleset that asks all shards, whether or not any of them has a tuple of it.
 const ANY: &[u8] = b"a@a";
 
-/// The rows of a read, and the place that they are of.
+/// The rows of a read, and their place.
 #[derive(Drop)]
 pub(crate) struct Selected {
     pub place: u64,

@@ -37,7 +37,7 @@ fn key(tuple: &Tuple) -> Result<Tupleset, AllocError>
     Ok(Tupleset::Key(tuple.clone()?))
 }
 
-// Reads one tuple at the place, and appends it where it is there.
+// Reads one tuple at the place, and appends it if it is there.
 fn read_one<S: Store>(
     alloc: Global,
     store: &mut S,
@@ -86,7 +86,7 @@ fn read_all<S: Store>(
     Ok(())
 }
 
-// The place that is asked for, once it is seen to be one that can be read; the latest where none is.
+// The place that is asked for, once it is known to be readable; the latest if none is.
 fn find_place<S: Store>(alloc: Global, store: &mut S, at: Option<u64>) -> Result<u64, Refusal>
     ensures ok { IfOk result (λ place. FindsPlace S.takes S.nexts at store.old place store.new) }
     ensures looks { LooksOn S.takes store.old store.new }
@@ -114,14 +114,14 @@ fn find_all<S: Store>(
     ensures looks { LooksOn S.takes store.old store.new }
 {
     gather(store, shards, found)?;
-    // The place can be read still, so no shard has forgotten what was there.
+    // The place can still be read, so no shard has forgotten what was there.
     let _still = place_of(alloc, store, Freshness::Exact(place))?;
     read_all(alloc, store, place, found, tuples)
 }
 
-/// All tuples that are there at a place, or at the latest. `Future` where the place is above what is kept, `Collected` where it is below the horizon, and
-/// before that what a node was refused with, the coordinator first and then the shards by rising number. Whatever comes of it, all that is begun is reads, and
-/// that shards learn what is kept.
+/// All tuples that are there at a place, or at the latest. `Future` if the place is above what is kept, `Collected` if it is below the horizon, and before
+/// that the refusal of a node, the coordinator first and then the shards by rising number. In any case it only begins reads, and lets shards learn what is
+/// kept.
 pub fn take_dump<S: Store>(
     alloc: Global,
     store: &mut S,

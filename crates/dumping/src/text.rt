@@ -35,7 +35,8 @@ fn write_tuple(tuple: &Tuple, out: &mut Vec<u8>) -> Result<(), AllocError>
     Ok(())
 }
 
-/// Appends the text: the token of the place in the store with this id, and a line for each tuple. An `Err` is for want of memory, and a part may be appended.
+/// Appends the text: the token of the place in the store with this id, and a line for each tuple. An `Err` is for lack of memory; part of the text may then be
+/// appended.
 pub(crate) fn write_text(
     store: u64,
     place: u64,

@@ -31,7 +31,7 @@ past_or_now : (e : Event) (events : List Event) (t : ℕ) (c : List ℕ) (k : �
 past_or_now e events t c zero le could = inr could
 past_or_now e events t c (suc k) le could = inl (k, omega (arith, le), could)
 
--- time goes on by one event
+-- time passes by one event
 pub elapses : (e : Event) (events : List Event) → Elapses (length events) (length (e ∷ events)) (LeftSince events) (LeftSince (e ∷ events)) (CouldLeave (e ∷ events))
 elapses e events = record {
   later = omega arith;

@@ -3,7 +3,7 @@ use Rattle.std.specs.Prelude.{◌+◌, ◌≤◌, ◌==◌, ℕ, Bool, true, fal
 use Rattle.device.specs.Device.{State, Leaves, reach}
 use Rattle.device.specs.Sim.{Image, all_durable, overwritten}
 
--- what was done (0 opened, 1 written, 2 synced), the place, and the bytes
+-- what was done (0 opened, 1 written, 2 synced), the offset, and the bytes
 abbrev pub Event : Type 0
 Event = ℕ × ℕ × List ℕ
 

@@ -1,8 +1,8 @@
-// Why a file can't be had, as it is told.
+// Why a file is unavailable, as it is printed.
 use refusal::Refusal;
 use std::{fmt, io, str};
 
-/// Why a file or a folder of a store can't be had. As a text it is what is told behind the path.
+/// Why a file or a folder of a store is unavailable. Its text is what is printed after the path.
 #[derive(Clone, Copy, Debug)]
 pub enum Cause {
     /// A call of the system failed.
@@ -11,7 +11,7 @@ pub enum Cause {
     InUse,
     /// It is a link.
     IsLink,
-    /// It is a folder, a pipe or whatever else is no plain file.
+    /// It is a folder, a pipe or anything else but a plain file.
     IsNoFile,
     /// It has more bytes than a device may have.
     IsTooLong,
@@ -19,15 +19,15 @@ pub enum Cause {
     IsReplaced,
     /// It is not there, and may not be made.
     IsMissing,
-    /// What it has can't be read, or is not durable.
+    /// Its content can't be read, or is not durable.
     IsUnread,
-    /// It is no folder.
+    /// It is not a folder.
     IsNoFolder,
     /// The folder has no store.
     HasNoStore,
     /// The folder, which was to have no store, has a file of one.
     HasStore,
-    /// The folder has the store of this id, with so many shards.
+    /// The folder has the store of this id, with this many shards.
     IsOfStore(u64, u8),
     /// There is no memory for its path or its bytes.
     NoMemory,
@@ -75,11 +75,11 @@ impl From<io::Error> for Cause {
     }
 }
 
-/// A file or a folder that can't be had: with which refusal a command ends for it, and why. As a text it is its path with the cause.
+/// A file or a folder that is unavailable: with which refusal a command ends for it, and why. Its text is its path with the cause.
 #[derive(Debug, Drop)]
 pub struct Unopened {
     pub refusal: Refusal,
-    /// It is empty where there was no memory for it.
+    /// Empty if there was no memory for it.
     pub path: String,
     pub cause: Cause,
 }

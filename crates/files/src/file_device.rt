@@ -1,4 +1,4 @@
-// A device over a file, of which no contract tells anything: each life reads only what it found when it was opened.
+// A device over a file, about which no contract says anything: each life reads only what it found when it was opened.
 ghost use Rattle.std.specs.Prelude.{◌≡◌, ◌≤◌, ◌+◌, ◌<◌, ◌⊎◌, ◌^◌, ◌-◌, [], ◌∷◌, true, false, List, ℕ, IfOk, IfErr, IfSome, None, IsErr, IsOk, OnOk, OnErr, length, take, drop, vec_len};
 ghost use Rattle.std.proofs.Common.{subst, arith};
 ghost use Rattle.std.proofs.Props.{props};
@@ -12,16 +12,16 @@ use device::{Device, Stopped, Tear};
 use refusal::Refusal;
 use std::alloc::Global;
 
-/// A life of a device over a file. It reads what it found when it was opened, from memory; with the first write that is let go, and nothing
-/// reads any more.
+/// A life of a device over a file. It reads what it found when it was opened, from memory; the first write discards that, and nothing can be
+/// read any more.
 ///
-/// | Call | Before the first write | Behind it |
+/// | Call | Before the first write | After it |
 /// |---|---|---|
 /// | `len`, `read_at` | from memory, no call of the file | counts as a failure |
 /// | `write_at`, `sync` | one call of the file | the same |
-/// | `revive` | goes on with what was found, if the file syncs | counts as a failure |
+/// | `revive` | continues with what was found, if the file syncs | counts as a failure |
 ///
-/// So a device that has failed behind a write is down for good. Let it go and open the file again: what that finds is what the next life has.
+/// So a device that has failed after a write is down for good. Drop it and open the file again: the next life has what that finds.
 #[derive(Drop)]
 pub struct FileDevice<F: RawFile> {
     file: F,
@@ -38,7 +38,7 @@ pub struct FileDevice<F: RawFile> {
 
 impl<F: RawFile> FileDevice<F> {
     /// Refreshes the file and reads all of it: that is durable, and what this life has found. It has written nothing, and no call has failed.
-    /// `Down` where a call of the file fails, `NoMemory` for its bytes; nothing is written in either case.
+    /// `Down` if a call of the file fails, `NoMemory` for its bytes; nothing is written in either case.
     pub fn open(alloc: Global, mut file: F) -> Result<FileDevice<F>, Refusal>
         ensures fresh { IfOk result (λ d. IsFresh (image d.history.events).seen (life_state d.history.events d.is_stopped d.failures)) }
         ensures found { IfOk result (λ d. (a : F) × (b : F) × F.refreshed file a × F.told a (length (image d.history.events).seen) b × F.has_read b 0 (image d.history.events).seen d.file) }
@@ -64,7 +64,7 @@ impl<F: RawFile> FileDevice<F> {
         })
     }
 
-    /// What was found, as long as nothing was written; behind the first write nothing.
+    /// What was found, until the first write; then nothing.
     pub fn found(&self) -> &[u8]
         ensures found { IfSome self.now.found (λ v. result.now ≡ v.items) }
         ensures none { self.now.found ≡ None → result.now ≡ [] }
@@ -176,7 +176,7 @@ impl<F: RawFile> Device for FileDevice<F> {
         }
         self.found = None;
         let is_done = self.file.write_at(at, bytes).is_ok();
-        // A write that fails is noted too: its range may have any bytes.
+        // A failed write is noted too: its range may have any bytes.
         self.history.note_write(at, bytes);
         if !is_done {
             return Err(self.stop());

@@ -34,7 +34,7 @@ impl History {
         }
     }
 
-    // The kind of the event and its place, and its bytes.
+    // The kind of the event, its offset and its bytes.
     fn note(&mut self, _numbers: &[u64], _bytes: &[u8])
         ensures { self.new.events ≡ event_of _numbers.now _bytes.now ∷ self.old.events }
     {}

@@ -1,4 +1,4 @@
-// Files of the operating system. Each method makes the calls that it stands for, and a write that makes a file longer one more, of zeros behind it.
+// Files of the operating system. Each method makes the calls that it stands for; a write that lengthens a file makes one more, of zeros after it.
 ghost use Rattle.std.specs.Prelude.{◌≡◌, ◌≤◌, ◌+◌, ◌⊎◌, IfErr, IfOk};
 ghost use Rattle.device.specs.Disk.{IsFresh};
 ghost use Rattle.files.specs.Life.{image, life_state};
@@ -17,52 +17,52 @@ use std::sync::Arc;
 /// The most bytes of a device.
 const MAX_LEN: u64 = 1 << 40;
 
-// A file is made longer up to a multiple of so many bytes.
+// A file is lengthened up to a multiple of this many bytes.
 const STRETCH: usize = 65_536;
 
 const ZEROS: &[u8] = &[0; STRETCH];
 
-// Of room that was taken and is not enough so many bytes are given back at once.
+// If the room that was taken is not enough, this many bytes of it are given back at once.
 const SOON: usize = 1 << 20;
 
-// How often a write is made that finds no room while another file asks for some.
+// How often a write that finds no room is tried while another file asks for some.
 const TRIES: u32 = 3;
 
 /// What is done with the file of a device.
 #[derive(Clone, Copy, Debug, PartialEq, Eq)]
 pub enum Access {
-    /// It is read and written, and made where it is missing.
+    /// It is read and written, and created if it is missing.
     Make,
     /// It is read and written.
     Write,
-    /// It is read, beside others who do the same. What is written to its device is let go.
+    /// It is read, as others may do at the same time. What is written to its device is discarded.
     Look,
 }
 
 /// A file that is open under one descriptor, and locked for as long.
 ///
-/// It may be longer than what was written to it: a write past its end stretches it, by at most 64 KiB of zeros. Until these are written over, a sync has
-/// bytes to make durable and no length, which takes a file system about a quarter less.
+/// It may be longer than what was written to it: a write past its end stretches it, by at most 64 KiB of zeros. Until these are overwritten, a sync has bytes
+/// to make durable and no length, which takes a file system about a quarter less.
 ///
 /// A write past the limit that the process had on the size of its files (`RLIMIT_FSIZE`) when the file was opened is refused as on a full disk, and not made.
 #[derive(Drop)]
 pub struct HostFile {
     file: fs::File,
     access: Access,
-    // how many bytes it has at least
+    // at least how many bytes it has
     len: usize,
     // how many it may have
     limit: u64,
-    // of its writes and syncs
+    // shows its writes and syncs
     pulse: Arc<Pulse, Global>,
-    // of all files of the store: one of them asks for room
+    // shared by all files of the store: one of them is asking for room
     asking: Arc<Pulse, Global>,
 }
 
 impl HostFile {
-    /// The file at the path. It is locked, so that no other process, and no other `HostFile` of this one, has it open at the same time; one that is only
-    /// looked at shares its lock with others that are. A file that was there is not changed, and that the name of one which was made is durable is left
-    /// to the caller (`sync_folder`). While any file with the same `asking` asks for room, a write that finds none waits, and is made again.
+    /// The file at the path, locked: no other process, and no other `HostFile` of this one, has it open at the same time; files that are only looked at
+    /// share the lock. An existing file is not changed. Making the name of a new one durable is left to the caller (`sync_folder`). While any file with
+    /// the same `asking` asks for room, a write that finds none waits, and is retried.
     pub fn open(
         rt: &HostRuntime,
         path: &str,
@@ -102,9 +102,9 @@ impl HostFile {
         Arc::try_clone(&self.pulse)
     }
 
-    // Stretches the file where what was written up to there made it longer, but not past its limit. It only helps: where there is no room for it, as on a full
-    // disk, the next write makes the file longer by itself. Behind the first gate of a device nothing is added before more is: with nothing written there a
-    // stop may leave any byte, and an open gate with zeros behind it would be damage.
+    // Stretches the file if what was written up to there lengthened it, but not past its limit. It only helps: if there is no room for it, as on a full disk,
+    // the next write lengthens the file by itself. Nothing is added behind the first gate of a device until more is written: before that a stop may leave any
+    // byte there, and an open gate with zeros behind it would be damage.
     fn stretch(&mut self, end: usize) {
         if end <= self.len || end <= 1 || end as u64 >= MAX_LEN {
             return;
@@ -116,8 +116,8 @@ impl HostFile {
         }
     }
 
-    // Makes the file so many bytes long, with zeros behind what is there. Where the disk has no room for them all, it gets back those that it had; until then it
-    // is full, and no other file can grow.
+    // Lengthens the file to this many bytes, with zeros after what is there. If the disk has no room for them all, it gets back those that it gave; until then
+    // it is full, and no other file can grow.
     fn take_room(&self, there: usize, len: usize) -> io::Result<()> {
         // Nothing is added behind a first gate that a stop may still leave open.
         if there <= 1 {
@@ -134,8 +134,8 @@ impl HostFile {
         taken
     }
 
-    // Makes the file so many bytes long as it was: a little shorter at once, since the more is given back the longer it takes. Zeros that can't be cut off count
-    // for nothing.
+    // Shortens the file to this many bytes, its old length: a little at once, since the more is given back the longer it takes. Zeros that can't be cut off
+    // count for nothing.
     fn give_back(&self, there: usize) {
         if let Ok(len) = len_of(&self.file) {
             let soon = len.saturating_sub(SOON).max(there);
@@ -144,7 +144,8 @@ impl HostFile {
         let _ = self.file.set_len(there as u64);
     }
 
-    // Whether all of the bytes were written. A disk that is asked for more room than it has is full until it has that back: what finds none then is written again.
+    // Whether all of the bytes were written. A disk that is asked for more room than it has is full until it has that back: a write that finds none then is
+    // retried.
     fn write_all(&self, at: usize, bytes: &[u8]) -> bool {
         for _ in 0..TRIES {
             let ended = self.asking.ended();
@@ -182,7 +183,7 @@ impl From<Cause> for Broken {
 }
 
 impl RawFile for HostFile {
-    // What the system's files keep no clause tells.
+    // No clause says what the system's files keep.
     ghost refreshed = { λ old new. Unit {0} };
 
     ghost told = { λ old n new. Unit {0} };
@@ -197,11 +198,11 @@ impl RawFile for HostFile {
 
     fn refresh(&mut self) -> Result<(), Broken> {
         match self.file.sync_all() {
-            // A file system that can't be written to may know no sync.
+            // A file system that can't be written to may not support sync.
             Err(error) if self.access == Access::Look && is_of_reader(error.kind()) => {}
             synced => synced?,
         }
-        // Only an advice, which answers an error's number.
+        // Only advice, which returns an error's number.
         if libc::posix_fadvise(self.file.as_raw_fd(), 0, 0, libc::POSIX_FADV_DONTNEED) != 0 {
             return Err(Broken);
         }
@@ -245,7 +246,7 @@ impl RawFile for HostFile {
     }
 
     fn has_room(&self, len: usize) -> bool {
-        // What is only looked at takes no room.
+        // A file that is only looked at takes no room.
         if self.access == Access::Look {
             return true;
         }
@@ -263,8 +264,8 @@ impl RawFile for HostFile {
 /// A life of the device over the file of this name in the folder: opened and locked as `HostFile::open` says, refreshed, and read whole.
 /// What it reads is durable.
 ///
-/// `Down` where another process or device has the file, where it can't be opened, made or read, is a link or no file, or is too long;
-/// `NoMemory` for the path and the bytes of the file. A file that was there is not changed.
+/// `Down` if another process or device has the file, if it can't be opened, made or read, is a link or not a file, or is too long;
+/// `NoMemory` for the path and the bytes of the file. An existing file is not changed.
 pub fn open(
     rt: &HostRuntime,
     alloc: Global,
@@ -285,7 +286,7 @@ pub fn open(
     }
 }
 
-/// The same, beside other files of the store, which have the same `asking`: while one of them asks for room, a write of another that finds none waits.
+/// The same, beside other files of the store with the same `asking`: while one of them asks for room, a write of another that finds none waits.
 pub fn open_beside(
     rt: &HostRuntime,
     alloc: Global,
@@ -337,7 +338,7 @@ fn open_device(
     }
 }
 
-// How many zeros stretch a file that was written up to there: to the next multiple, or as far as its limit lets it.
+// How many zeros stretch a file that was written up to there: to the next multiple, or as far as its limit allows.
 fn room_behind(end: usize, limit: u64) -> usize
     ensures stretch { result ≤ STRETCH }
     ensures limit { end ≤ limit → end + result ≤ limit }
@@ -346,12 +347,12 @@ fn room_behind(end: usize, limit: u64) -> usize
     limit.saturating_sub(end as u64).min(room as u64) as usize
 }
 
-// Whether a write fails so where there is no room for it.
+// Whether a write fails like this if there is no room for it.
 fn is_of_room(kind: ErrorKind) -> bool {
     matches!(kind, ErrorKind::StorageFull | ErrorKind::QuotaExceeded)
 }
 
-// Whether a sync may fail so where nothing can be written.
+// Whether a sync may fail like this if nothing can be written.
 fn is_of_reader(kind: ErrorKind) -> bool {
     matches!(
         kind,
@@ -359,7 +360,7 @@ fn is_of_reader(kind: ErrorKind) -> bool {
     )
 }
 
-/// What was made in the folder has a durable name behind it.
+/// Makes the names of what was created in the folder durable.
 pub fn sync_folder(rt: &HostRuntime, folder: &str) -> io::Result<()> {
     fs::open(rt, folder)?.sync_all()
 }

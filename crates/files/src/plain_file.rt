@@ -1,10 +1,10 @@
-// What stands at a path is opened as a plain file, or not at all.
+// Opens what stands at a path as a plain file, or not at all.
 use crate::{Access, Cause};
 use std::fs::{self, OpenOptions};
 use std::io::{self, ErrorKind};
 use std::os::unix::fs::MetadataExt;
 
-/// The file at the path, which is made where it may be. What stands there already is opened only if it is a plain file.
+/// The file at the path, created if that is allowed. What stands there already is opened only if it is a plain file.
 pub(crate) fn open_plain(rt: &HostRuntime, path: &str, access: Access) -> Result<fs::File, Cause> {
     if access == Access::Make {
         match fs::File::create_new(rt, path) {
@@ -22,7 +22,7 @@ pub(crate) fn open_plain(rt: &HostRuntime, path: &str, access: Access) -> Result
     )
 }
 
-// Sees a plain file at the path.
+// Looks whether a plain file stands at the path.
 fn see_plain(rt: &HostRuntime, path: &str) -> Result<(), Cause> {
     let found = match fs::symlink_metadata(rt, path) {
         Err(error) if error.kind() == ErrorKind::NotFound => return Err(Cause::IsMissing),

@@ -5,8 +5,8 @@ use libc::types::rlimit;
 // What is asked for, by its number on Linux.
 const RLIMIT_FSIZE: i32 = 1;
 
-/// Up to how many bytes a file may be written: a write past them would end the process by a signal (`SIGXFSZ`). No file of a device is as long as the
-/// greatest number, which it is where there is no limit, or none can be told.
+/// Up to how many bytes a file may be written: a write past them would end the process by a signal (`SIGXFSZ`). If there is no limit, or none is
+/// known, it is the greatest number, which no file of a device reaches.
 pub(crate) fn size_limit() -> u64 {
     let mut limit = rlimit {
         rlim_cur: 0,

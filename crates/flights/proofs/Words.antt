@@ -14,7 +14,7 @@ pub use Rattle.decisions.specs.Coordinators.{CoordinatorView}
 pub use Rattle.decisions.specs.Values.{IntentValue, VerdictValue}
 pub use Rattle.device.specs.Device.{State}
 pub use Rattle.flights.specs.Flights.{AreRowsAround, FlightView, HasFlown, IsReady, launch_of, LogStaysIn, StaysIn}
-pub use Rattle.flights.specs.declared.launch.Launch.{Launch}
+pub use Rattle.sides.specs.declared.launch.Launch.{Launch}
 pub use Rattle.journal.specs.Records.{batch_size, View}
 pub use Rattle.published.proofs.Prefixes.{prefix_trans}
 pub use Rattle.published.specs.Known.{Known}

@@ -23,7 +23,7 @@ use Rattle.ties.specs.ShardTies.{AreRowsOf}
 use Rattle.sides.specs.CoordinatorSides.{LogSide}
 use Rattle.sides.specs.Lending.{IsSoundIn}
 use Rattle.sides.specs.Sides.{Side}
-use Rattle.flights.specs.declared.launch.Launch.{Launch}
+use Rattle.sides.specs.declared.launch.Launch.{Launch}
 
 -- what flies is of a coordinator
 abbrev pub is_of_coordinator : Flying → Bool

@@ -20,7 +20,7 @@ use Rattle.flights.specs.Flights.{FlightView, IsLogOutOn}
 use Rattle.flights.specs.Places.{Whereabouts, here, nowhere, out}
 use Rattle.flights.specs.declared.berth.Berth.{Berth}
 use Rattle.flights.specs.declared.berth.Berth.TheVariants.{Here, Out}
-use Rattle.flights.specs.declared.launch.Launch.{Launch}
+use Rattle.sides.specs.declared.launch.Launch.{Launch}
 use Rattle.flights.specs.declared.returning.Restart.{Restart}
 use Rattle.flights.specs.declared.returning.Restart.TheVariants.{HasToWait, IsRefused, IsUp}
 

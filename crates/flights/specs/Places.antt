@@ -18,7 +18,7 @@ use Rattle.sides.specs.Sides.{Side, SideAnswers, bank_len_in}
 use Rattle.flights.specs.Flights.{FlightView, IsOutOn}
 use Rattle.flights.specs.declared.berth.Berth.{Berth}
 use Rattle.flights.specs.declared.berth.Berth.TheVariants.{Here, Out}
-use Rattle.flights.specs.declared.launch.Launch.{Launch}
+use Rattle.sides.specs.declared.launch.Launch.{Launch}
 use Rattle.flights.specs.declared.returning.Restart.{Restart}
 use Rattle.flights.specs.declared.returning.Restart.TheVariants.{HasToWait, IsRefused, IsUp}
 

@@ -14,9 +14,7 @@ use crate::berth::Berth;
 use crate::{CoordinatorPlace, ShardPlace};
 use calls::{Reply, Told};
 use device::Device;
-use published::{Published, SessionPass};
-use sides::{Room, ShardSide};
-use tuples::Entry;
+use sides::{Lists, Pass, Room, ShardSide};
 
 // The checkpoint of a shard that has its devices. It is as sound as before.
 fn checkpoint_here<D: Device, B: Room>(side: &mut ShardSide<D, B>, told: &mut Told) -> Reply
@@ -78,11 +76,10 @@ impl<D: Device, B: Room> CoordinatorPlace<D, B> {
     /// are out: then all stays as it is.
     pub fn checkpoint(
         &mut self,
-        words: &Published<Entry>,
-        pass: &mut SessionPass<Entry>,
+        lists: &Lists<B>,
+        pass: &mut Pass<B>,
         told: &mut Told,
     ) -> Option<Reply>
-        requires own { (words.now ≡ B.log) × (pass.old.table ≡ B.log) }
         ensures made { IfSome result (λ reply. ChecksLogPointThere D.state D.honest D.moment D.left_since self.old reply self.new) }
         ensures caller { IfSome result (λ reply. IsLater pass.old pass.new) }
         ensures belongs { IfSome result (λ reply. IsReplyTo (of_coordinator log_checkpoint_call) reply) }
@@ -90,7 +87,7 @@ impl<D: Device, B: Room> CoordinatorPlace<D, B> {
         ensures out { IfNone result (IsOutThere self.old × (self.new ≡ self.old) × (told.new ≡ told.old) × (pass.new ≡ pass.old)) }
     {
         match &mut self.berth {
-            Some(Berth::Here(side, _)) => Some(side.checkpoint(words, pass, told)),
+            Some(Berth::Here(side, _)) => Some(side.checkpoint(lists, pass, told)),
             Some(Berth::Out(_, _)) => None,
             None => unreachable!(),
         }

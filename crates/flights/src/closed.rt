@@ -3,12 +3,12 @@ ghost use Rattle.std.specs.Prelude.{◌≡◌, ◌<◌};
 ghost use Rattle.laws.specs.Worlds.{shard_node};
 ghost use Rattle.ties.specs.ShardTies.{RowsAnywhere};
 
-use crate::{Launch, ShardPlace};
+use crate::ShardPlace;
 use device::Device;
 use journal::BatchRoom;
 use published::{SessionPass, SharedPass};
 use records::Identity;
-use sides::Room;
+use sides::{Launch, Room};
 use std::alloc::Global;
 use std::marker::{Model, PhantomData};
 use tuples::Entry;

@@ -11,14 +11,13 @@ ghost use Rattle.flights.specs.LogPlaces.{HasCount, tried_at};
 use crate::landings::{ANY, Landings};
 use crate::spinning::lock_soon;
 use crate::waiting::{Lands, awaited};
-use crate::{CoordinatorPlace, Flight, Launch, LaunchLog, Restart, Tried};
+use crate::{CoordinatorPlace, Flight, LaunchLog, Restart};
 use calls::{Reply, Told};
 use device::Device;
-use published::{Published, SessionPass};
-use sides::{Attempt, Room};
+use sides::{Caller, Lists, Pass, Room};
 use std::alloc::Global;
 use std::sync::{Mutex, MutexGuard, Wait};
-use tuples::{Entry, Refusal};
+use tuples::Refusal;
 
 /// The coordinator under its lock, which nobody holds while a flight's devices sync; and whoever waits for these to land.
 #[derive(Drop)]
@@ -46,14 +45,13 @@ impl<D: Device, B: Room> CoordinatorCell<D, B> {
     pub fn lock_to_ask<'a, R: Wait>(
         &'a self,
         rt: &R,
-        attempts: &Published<Attempt>,
+        lists: &Lists<B>,
     ) -> MutexGuard<'a, CoordinatorPlace<D, B>>
-        requires own { attempts.now ≡ B.attempts }
         ensures { HasCount (tried_at (mutex_guard_value result)) }
     {
         for _ in rt.forever() {
             let mut place = self.lock(rt);
-            if place.may_decide(attempts) {
+            if place.may_decide(lists) {
                 return place;
             }
         }
@@ -93,33 +91,30 @@ impl<D: Device, B: Room> CoordinatorCell<D, B> {
     fn leave<R: Wait>(
         &self,
         rt: &R,
-        words: &Published<Entry>,
-        launches: &Published<Launch>,
+        lists: &Lists<B>,
         log: &Mutex<LaunchLog<B>>,
-        pass: &mut SessionPass<Entry>,
-        tried: &mut Tried<B>,
+        caller: &mut Caller<B>,
         told: &mut Told,
     ) -> Result<Flight<D, B>, Reply>
-        requires own { (words.now ≡ B.log) × (launches.now ≡ B.launches) × (pass.old.table ≡ B.log) }
-        ensures same { tried.new ≡ tried.old }
-        ensures caller { IsLater pass.old pass.new }
+        ensures same { caller.new.tried ≡ caller.old.tried }
+        ensures caller { IsLater caller.old.pass caller.new.pass }
         ensures belongs { IfErr result (IsReplyTo (of_coordinator flush_call)) }
         ensures told { MatchResult result (λ _. told.new ≡ told.old) (λ reply. Notes told.old reply told.new) }
     {
         let place = self.lock(rt);
-        let ticket = tried.take_ticket().unwrap_or(place.ticket());
+        let ticket = caller.tried.take_ticket().unwrap_or(place.ticket());
         let mut place = self.landed(rt, place, ticket);
         if place.has_landed(ticket) {
-            let reply = place.tell_flushed(words, pass, told);
+            let reply = place.tell_flushed(lists, &mut caller.pass, told);
             drop(place);
             self.landings.pass_on(ticket);
             return Err(reply);
         }
-        let flight = place.launch(launches, &mut lock_soon(rt, log));
+        let flight = place.launch(lists, &mut lock_soon(rt, log));
         match flight {
             Some(flight) => Ok(flight),
             None => {
-                let reply = place.tell_flushed(words, pass, told);
+                let reply = place.tell_flushed(lists, &mut caller.pass, told);
                 drop(place);
                 // Nobody else can have one leave either.
                 self.landings.tell_all();
@@ -132,13 +127,11 @@ impl<D: Device, B: Room> CoordinatorCell<D, B> {
     fn fly<R: Wait>(
         &self,
         rt: &R,
-        words: &Published<Entry>,
-        launches: &Published<Launch>,
+        lists: &Lists<B>,
         flight: Flight<D, B>,
-        pass: &mut SessionPass<Entry>,
+        pass: &mut Pass<B>,
         told: &mut Told,
     ) -> Reply
-        requires own { (words.now ≡ B.log) × (launches.now ≡ B.launches) × (pass.old.table ≡ B.log) }
         ensures caller { IsLater pass.old pass.new }
         ensures belongs { IsReplyTo (of_coordinator flush_call) result }
         ensures told { Notes told.old result told.new }
@@ -146,9 +139,9 @@ impl<D: Device, B: Room> CoordinatorCell<D, B> {
         let flown = flight.fly();
         let mut place = self.lock(rt);
         // No other flight can have its devices.
-        let _ = place.land(words, launches, flown);
+        let _ = place.land(lists, flown);
         let next = place.ticket();
-        let reply = place.tell_flushed(words, pass, told);
+        let reply = place.tell_flushed(lists, pass, told);
         drop(place);
         self.landings.tell(next);
         reply
@@ -159,21 +152,18 @@ impl<D: Device, B: Room> CoordinatorCell<D, B> {
     pub fn flush<R: Wait>(
         &self,
         rt: &R,
-        words: &Published<Entry>,
-        launches: &Published<Launch>,
+        lists: &Lists<B>,
         log: &Mutex<LaunchLog<B>>,
-        pass: &mut SessionPass<Entry>,
-        tried: &mut Tried<B>,
+        caller: &mut Caller<B>,
         told: &mut Told,
     ) -> Reply
-        requires own { (words.now ≡ B.log) × (launches.now ≡ B.launches) × (pass.old.table ≡ B.log) }
-        ensures same { tried.new ≡ tried.old }
-        ensures caller { IsLater pass.old pass.new }
+        ensures same { caller.new.tried ≡ caller.old.tried }
+        ensures caller { IsLater caller.old.pass caller.new.pass }
         ensures belongs { IsReplyTo (of_coordinator flush_call) result }
         ensures told { Notes told.old result told.new }
     {
-        match self.leave(rt, words, launches, log, pass, tried, told) {
-            Ok(flight) => self.fly(rt, words, launches, flight, pass, told),
+        match self.leave(rt, lists, log, caller, told) {
+            Ok(flight) => self.fly(rt, lists, flight, &mut caller.pass, told),
             Err(reply) => reply,
         }
     }
@@ -182,18 +172,17 @@ impl<D: Device, B: Room> CoordinatorCell<D, B> {
     pub fn checkpoint<R: Wait>(
         &self,
         rt: &R,
-        words: &Published<Entry>,
-        pass: &mut SessionPass<Entry>,
+        lists: &Lists<B>,
+        pass: &mut Pass<B>,
         told: &mut Told,
     ) -> Reply
-        requires own { (words.now ≡ B.log) × (pass.old.table ≡ B.log) }
         ensures caller { IsLater pass.old pass.new }
         ensures belongs { IsReplyTo (of_coordinator checkpoint_call) result }
         ensures told { Notes told.old result told.new }
     {
         for _ in rt.forever() {
             let mut place = self.lock_here(rt);
-            if let Some(reply) = place.checkpoint(words, pass, told) {
+            if let Some(reply) = place.checkpoint(lists, pass, told) {
                 return reply;
             }
         }
@@ -201,17 +190,10 @@ impl<D: Device, B: Room> CoordinatorCell<D, B> {
     }
 
     /// Opens it again, once its devices are here, and what it found joins the list. The refusal of its opening, where that was refused.
-    pub fn restart<R: Wait>(
-        &self,
-        rt: &R,
-        words: &Published<Entry>,
-        alloc: Global,
-    ) -> Option<Refusal>
-        requires own { words.now ≡ B.log }
-    {
+    pub fn restart<R: Wait>(&self, rt: &R, lists: &Lists<B>, alloc: Global) -> Option<Refusal> {
         for _ in rt.forever() {
             let mut place = self.lock_here(rt);
-            match place.restart(words, alloc) {
+            match place.restart(lists, alloc) {
                 Restart::IsUp => return None,
                 Restart::IsRefused(refusal) => return Some(refusal),
                 Restart::HasToWait => {}

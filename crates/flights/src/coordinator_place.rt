@@ -10,15 +10,13 @@ ghost use Rattle.flights.specs.Serving.{KnowsMore, Serves};
 use crate::berth::Berth;
 use crate::coordinator_serving::{serve_log_here, serve_log_out};
 use crate::waiting::Lands;
-use crate::{Launch, Tried};
 use away::Away;
 use calls::{CoordinatorCall, Reply, Told};
 use device::Device;
 use journal::BatchRoom;
-use published::{Published, SessionPass};
-use sides::{Attempt, CoordinatorSide, Room};
+use published::SessionPass;
+use sides::{Caller, CoordinatorSide, Launch, Lists, Room, Tried};
 use std::marker::Model;
-use tuples::Entry;
 
 /// The coordinator, whose devices are here or on a flight.
 #[derive(Drop)]
@@ -67,42 +65,26 @@ impl<D: Device, B: Room> CoordinatorPlace<D, B> {
         }
     }
 
-    /// A new pass for a caller, which knows all that there is.
-    pub fn session(&mut self, words: &Published<Entry>) -> SessionPass<Entry>
-        requires own { words.now ≡ B.log }
+    /// A new caller, which knows all that there is, and for which nothing was staged yet.
+    pub fn session(&mut self, lists: &Lists<B>) -> Caller<B>
         ensures same { self.new ≡ self.old }
-        ensures own { result.table ≡ B.log }
+        ensures all { result.tried.seen ≡ tried_at self.old }
     {
         match &mut self.berth {
-            Some(Berth::Here(side, _)) => side.session(words),
-            Some(Berth::Out(side, _)) => side.session(words),
+            Some(Berth::Here(side, _)) => side.session(lists),
+            Some(Berth::Out(side, _)) => side.session(lists),
             None => unreachable!(),
         }
     }
 
-    /// What a caller knows for which nothing was staged yet: all decisions that were ever staged.
-    pub fn attempts(&mut self, attempts: &Published<Attempt>) -> Tried<B>
-        requires own { attempts.now ≡ B.attempts }
-        ensures same { self.new ≡ self.old }
-        ensures all { result.seen ≡ tried_at self.old }
-    {
-        let pass = match &mut self.berth {
-            Some(Berth::Here(side, _)) => side.attempts(attempts),
-            Some(Berth::Out(side, _)) => side.attempts(attempts),
-            None => unreachable!(),
-        };
-        Tried::new(pass)
-    }
-
     /// Whether a decision more can be counted among all that were ever staged.
-    pub fn may_decide(&mut self, attempts: &Published<Attempt>) -> bool
-        requires own { attempts.now ≡ B.attempts }
+    pub fn may_decide(&mut self, lists: &Lists<B>) -> bool
         ensures same { self.new ≡ self.old }
         ensures room { IsTrue result ↔ HasCount (tried_at self.old) }
     {
         match &mut self.berth {
-            Some(Berth::Here(side, _)) => side.may_decide(attempts),
-            Some(Berth::Out(side, _)) => side.may_decide(attempts),
+            Some(Berth::Here(side, _)) => side.may_decide(lists),
+            Some(Berth::Out(side, _)) => side.may_decide(lists),
             None => unreachable!(),
         }
     }
@@ -110,30 +92,23 @@ impl<D: Device, B: Room> CoordinatorPlace<D, B> {
     // Makes a call that is no flush, wherever its devices are.
     fn serve(
         &mut self,
-        words: &Published<Entry>,
-        attempts: &Published<Attempt>,
-        pass: &mut SessionPass<Entry>,
-        tried: &mut Tried<B>,
+        lists: &Lists<B>,
+        caller: &mut Caller<B>,
         told: &mut Told,
         call: CoordinatorCall,
     ) -> Reply
-        requires own { (words.now ≡ B.log) × (pass.old.table ≡ B.log) × (attempts.now ≡ B.attempts) }
         requires owed { MayAskCoordinator B.shards call }
         requires counted { HasCount (tried_at self.old) }
         requires no_flush { is_log_flush call ≡ false }
         ensures answers { LogPlaceAnswers D.state D.honest D.moment D.left_since self.old call result self.new }
-        ensures serves { Serves B.rests B.shards pass.old pass.new (of_coordinator call) result }
-        ensures tried { KnowsMore tried.old tried.new }
-        ensures tells { B.rests → TellsWriters pass.old.seen tried.new.seen pass.new.seen (of_coordinator call) result }
+        ensures serves { Serves B.rests B.shards caller.old.pass caller.new.pass (of_coordinator call) result }
+        ensures tried { KnowsMore caller.old.tried caller.new.tried }
+        ensures tells { B.rests → TellsWriters caller.old.pass.seen caller.new.tried.seen caller.new.pass.seen (of_coordinator call) result }
         ensures told { Notes told.old result told.new }
     {
         match &mut self.berth {
-            Some(Berth::Here(side, _)) => {
-                serve_log_here(words, attempts, side, pass, tried, told, call)
-            }
-            Some(Berth::Out(side, _)) => {
-                serve_log_out(words, attempts, side, pass, tried, told, call)
-            }
+            Some(Berth::Here(side, _)) => { serve_log_here(lists, side, caller, told, call) }
+            Some(Berth::Out(side, _)) => { serve_log_out(lists, side, caller, told, call) }
             None => unreachable!(),
         }
     }
@@ -142,27 +117,31 @@ impl<D: Device, B: Room> CoordinatorPlace<D, B> {
     /// as kept is of the write that the caller knows as its own. It has to be asked first whether one decision more can be counted.
     pub fn ask(
         &mut self,
-        words: &Published<Entry>,
-        attempts: &Published<Attempt>,
-        pass: &mut SessionPass<Entry>,
-        tried: &mut Tried<B>,
+        lists: &Lists<B>,
+        caller: &mut Caller<B>,
         told: &mut Told,
         call: CoordinatorCall,
     ) -> Reply
-        requires own { (words.now ≡ B.log) × (pass.old.table ≡ B.log) × (attempts.now ≡ B.attempts) }
         requires owed { MayAskCoordinator B.shards call }
         requires counted { HasCount (tried_at self.old) }
         requires no_flush { is_log_flush call ≡ false }
         ensures answers { LogPlaceAnswers D.state D.honest D.moment D.left_since self.old call result self.new }
-        ensures serves { Serves B.rests B.shards pass.old pass.new (of_coordinator call) result }
-        ensures tried { KnowsMore tried.old tried.new }
-        ensures tells { B.rests → TellsWriters pass.old.seen tried.new.seen pass.new.seen (of_coordinator call) result }
+        ensures serves { Serves B.rests B.shards caller.old.pass caller.new.pass (of_coordinator call) result }
+        ensures tried { KnowsMore caller.old.tried caller.new.tried }
+        ensures tells { B.rests → TellsWriters caller.old.pass.seen caller.new.tried.seen caller.new.pass.seen (of_coordinator call) result }
         ensures told { Notes told.old result told.new }
     {
-        if is_staging(&call) {
+        self.note_staging(&mut caller.tried, &call);
+        self.serve(lists, caller, told, call)
+    }
+
+    // Notes by which flight goes what the call stages, if it stages anything.
+    fn note_staging(&self, tried: &mut Tried<B>, call: &CoordinatorCall)
+        ensures { tried.new ≡ tried.old }
+    {
+        if is_staging(call) {
             tried.board(self.ticket());
         }
-        self.serve(words, attempts, pass, tried, told, call)
     }
 }
 

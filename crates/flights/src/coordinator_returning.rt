@@ -12,25 +12,23 @@ ghost use Rattle.flights.specs.LogPlaces.{HasLogLanded, HasLogRestarted, LogTell
 ghost use Rattle.flights.specs.Places.{IsOutFor};
 
 use crate::berth::Berth;
-use crate::{CoordinatorPlace, Flown, Launch, Restart};
+use crate::{CoordinatorPlace, Flown, Restart};
 use away::Away;
 use calls::{CoordinatorReply, Reply, Told};
 use device::Device;
 use journal::BatchRoom;
-use published::{Published, SessionPass};
-use sides::{CoordinatorSide, Room};
+use published::SessionPass;
+use sides::{CoordinatorSide, Launch, Lists, Pass, Room};
 use std::alloc::Global;
-use tuples::Entry;
 
 // The flight that has its devices brings them back.
 fn arrive<D: Device, B: Room>(
-    words: &Published<Entry>,
-    launches: &Published<Launch>,
+    lists: &Lists<B>,
     pass: &mut SessionPass<Launch>,
     side: CoordinatorSide<Away<D>, B>,
     flown: Flown<D, B>,
 ) -> (CoordinatorSide<D, B>, BatchRoom)
-    requires own { (words.now ≡ B.log) × (launches.now ≡ B.launches) × (pass.old.table ≡ B.launches) }
+    requires own { pass.old.table ≡ B.launches }
     requires out { IsLogOutOn pass.old.seen side flown.launch }
     ensures own { pass.new.table ≡ B.launches }
     ensures lands { LandsIn D.state D.honest side.node flown.journal flown.flying result.0.node }
@@ -43,9 +41,9 @@ fn arrive<D: Device, B: Room>(
         launch: _,
         room: _,
     } = flown;
-    launches.share(pass, &mut known);
+    lists.launches.share(pass, &mut known);
     side.keeps();
-    side.land(words, journal, flying)
+    side.land(lists, journal, flying)
 }
 
 impl<D: Device, B: Room> CoordinatorPlace<D, B> {
@@ -61,13 +59,7 @@ impl<D: Device, B: Room> CoordinatorPlace<D, B> {
 
     /// Its devices come back from their flight. Where that went well, what flew is durable, and joins the list; else the coordinator is down. What was staged
     /// since is staged still. Only another flight does not land: it comes back as it was, and nothing is changed.
-    pub fn land(
-        &mut self,
-        words: &Published<Entry>,
-        launches: &Published<Launch>,
-        flown: Flown<D, B>,
-    ) -> Result<(), Flown<D, B>>
-        requires own { (words.now ≡ B.log) × (launches.now ≡ B.launches) }
+    pub fn land(&mut self, lists: &Lists<B>, flown: Flown<D, B>) -> Result<(), Flown<D, B>>
         ensures landed { OnOk result (HasLogLanded D.state D.honest self.old flown self.new) }
         ensures lands { IsOk result ↔ IsOutFor flown.launch self.old }
         ensures stays { IfErr result (λ back. (back ≡ flown) × (self.new ≡ self.old)) }
@@ -82,19 +74,13 @@ impl<D: Device, B: Room> CoordinatorPlace<D, B> {
                 unreachable!();
             }
         };
-        let (side, room) = arrive(words, launches, &mut self.pass, side, flown);
+        let (side, room) = arrive(lists, &mut self.pass, side, flown);
         drop(self.berth.replace(Berth::Here(side, room)));
         Ok(())
     }
 
     /// What is answered to a flush whose flight has landed. It makes no call of a device. The caller knows what is kept then.
-    pub fn tell_flushed(
-        &mut self,
-        words: &Published<Entry>,
-        pass: &mut SessionPass<Entry>,
-        told: &mut Told,
-    ) -> Reply
-        requires own { (words.now ≡ B.log) × (pass.old.table ≡ B.log) }
+    pub fn tell_flushed(&mut self, lists: &Lists<B>, pass: &mut Pass<B>, told: &mut Told) -> Reply
         ensures same { self.new ≡ self.old }
         ensures caller { IsLater pass.old pass.new }
         ensures up { LogTellsUp self.old result }
@@ -102,9 +88,9 @@ impl<D: Device, B: Room> CoordinatorPlace<D, B> {
         ensures told { Notes told.old result told.new }
     {
         match &mut self.berth {
-            Some(Berth::Here(side, _)) => side.tell_flushed(words, pass, told),
+            Some(Berth::Here(side, _)) => side.tell_flushed(lists, pass, told),
             Some(Berth::Out(side, _)) => {
-                side.tell(words, pass);
+                side.tell(lists, pass);
                 Reply::Coordinator(CoordinatorReply::Flush(Ok(())))
             }
             None => unreachable!(),
@@ -112,12 +98,11 @@ impl<D: Device, B: Room> CoordinatorPlace<D, B> {
     }
 
     /// The node's memory is thrown away, its devices are revived, and it is opened again, and what it found joins the list: where they are here.
-    pub fn restart(&mut self, words: &Published<Entry>, alloc: Global) -> Restart
-        requires own { words.now ≡ B.log }
+    pub fn restart(&mut self, lists: &Lists<B>, alloc: Global) -> Restart
         ensures { HasLogRestarted D.state D.honest D.moment D.left_since B.store B.shards self.old result self.new }
     {
         match &mut self.berth {
-            Some(Berth::Here(side, _)) => match side.restart(words, alloc) {
+            Some(Berth::Here(side, _)) => match side.restart(lists, alloc) {
                 None => Restart::IsUp,
                 Some(refusal) => Restart::IsRefused(refusal),
             },

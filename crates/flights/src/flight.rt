@@ -1,12 +1,11 @@
 // A flight: what was staged is made durable outside of all locks.
 ghost use Rattle.std.specs.Prelude.{◌≡◌};
 
-use crate::Launch;
 use calls::Flying;
 use device::Device;
 use journal::Journal;
 use published::SessionPass;
-use sides::Room;
+use sides::{Launch, Room};
 use std::marker::{Model, PhantomData};
 
 /// A node's journal with its devices, and all that was staged. It has to fly and then to land: the node has no devices until then.

@@ -6,18 +6,9 @@ use calls::Flying;
 use device::Device;
 use journal::Journal;
 use published::{Adds, LogPass, Published, SessionPass};
-use records::Record;
-use sides::Room;
+use sides::{Launch, Lists, Room};
 use std::alloc::{AllocError, Global};
-use std::collections::LinkedList;
 use std::marker::{Brand, Model, PhantomData};
-
-/// Which kind of node it is whose devices are lent, and its records then: those that are durable, and those that fly. No value of it is made.
-pub struct Launch {
-    pub of_coordinator: bool,
-    pub durable: LinkedList<Record>,
-    pub staged: LinkedList<Record>,
-}
 
 /// The pass that alone numbers the flights of a store.
 #[derive(Drop)]
@@ -29,7 +20,7 @@ pub struct LaunchLog<B: Room> {
 impl<B: Room> Model for LaunchLog<B> {
     ghost use Rattle.std.specs.Prelude.{◌≡◌};
     ghost use Rattle.published.specs.Known.{Known};
-    ghost use Rattle.flights.specs.declared.launch.Launch.{Launch as AnyLaunch};
+    ghost use Rattle.sides.specs.declared.launch.Launch.{Launch as AnyLaunch};
 
     ghost Value = { Known AnyLaunch };
 
@@ -79,43 +70,40 @@ impl Launches {
 
 impl<B: Room> LaunchLog<B> {
     /// A new pass of the store's flights, for a node.
-    pub fn session(&mut self, launches: &Published<Launch>) -> SessionPass<Launch>
-        requires own { launches.now ≡ B.launches }
+    pub fn session(&mut self, lists: &Lists<B>) -> SessionPass<Launch>
+        ensures same { self.new ≡ self.old }
+        ensures pass { result ≡ self.old }
         ensures own { result.table ≡ B.launches }
     {
-        launches.session(&mut self.log)
+        lists.launches.session(&mut self.log)
     }
 }
 
 // One flight more.
-fn announce<D: Device, A: Adds<Launch>>(
-    launches: &Published<Launch>,
-    log: &mut LogPass<Launch>,
+fn announce<D: Device, B: Room, A: Adds<Launch>>(
+    lists: &Lists<B>,
+    log: &mut LaunchLog<B>,
     flight: &Journal<D>,
     flying: Flying,
     count: u64,
 )
-    requires own { log.old.table ≡ launches.now }
     requires count { count ≡ length log.old.seen + 1 }
     requires added { A.added ≡ launch_of flight.now flying ∷ [] }
-    ensures same { log.new.table ≡ log.old.table }
     ensures added { log.new.seen ≡ log.old.seen ++ launch_of flight.now flying ∷ [] }
 {
-    launches.advance::<A>(log, count);
+    lists.launches.advance::<A>(&mut log.log, count);
 }
 
 /// Numbers a flight: so many there are then.
-pub(crate) fn tell_of<D: Device>(
-    launches: &Published<Launch>,
-    log: &mut LogPass<Launch>,
+pub(crate) fn tell_of<D: Device, B: Room>(
+    lists: &Lists<B>,
+    log: &mut LaunchLog<B>,
     flight: &Journal<D>,
     flying: Flying,
     count: u64,
 )
-    requires own { log.old.table ≡ launches.now }
     requires count { count ≡ length log.old.seen + 1 }
-    ensures same { log.new.table ≡ log.old.table }
     ensures added { log.new.seen ≡ log.old.seen ++ launch_of flight.now flying ∷ [] }
 {
-    announce::<D, Brand>(launches, log, flight, flying, count);
+    announce::<D, B, Brand>(lists, log, flight, flying, count);
 }

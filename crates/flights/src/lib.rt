@@ -28,15 +28,13 @@ mod shard_cell;
 mod shard_place;
 mod spinning;
 mod taking_off;
-mod tried;
 mod waiting;
 
 pub use closed::ClosedShard;
 pub use coordinator_cell::CoordinatorCell;
 pub use coordinator_place::CoordinatorPlace;
 pub use flight::{Flight, Flown};
-pub use launch::{Launch, LaunchLog, Launches};
+pub use launch::{LaunchLog, Launches};
 pub use returning::Restart;
 pub use shard_cell::ShardCell;
 pub use shard_place::ShardPlace;
-pub use tried::Tried;

@@ -9,13 +9,13 @@ ghost use Rattle.flights.specs.Flights.{IsOutOn};
 ghost use Rattle.flights.specs.Places.{HasLanded, HasRestarted, IsOutFor, TellsUp, number_at};
 
 use crate::berth::Berth;
-use crate::{Flown, Launch, ShardPlace};
+use crate::{Flown, ShardPlace};
 use away::Away;
 use calls::{Reply, ShardReply, Told};
 use device::Device;
 use journal::BatchRoom;
-use published::{Published, RestingPass, SessionPass};
-use sides::{Room, ShardSide};
+use published::{RestingPass, SessionPass};
+use sides::{Launch, Lists, Room, ShardSide};
 use std::alloc::Global;
 use std::sync::Wait;
 use tuples::Refusal;
@@ -33,12 +33,12 @@ pub enum Restart {
 
 // The flight that has its devices brings them back.
 fn arrive<D: Device, B: Room>(
-    launches: &Published<Launch>,
+    lists: &Lists<B>,
     pass: &mut SessionPass<Launch>,
     side: ShardSide<Away<D>, B>,
     flown: Flown<D, B>,
 ) -> (ShardSide<D, B>, BatchRoom)
-    requires own { (launches.now ≡ B.launches) × (pass.old.table ≡ B.launches) }
+    requires own { pass.old.table ≡ B.launches }
     requires out { IsOutOn D.state D.honest B.rests B.shards pass.old.seen side flown.launch }
     ensures own { pass.new.table ≡ B.launches }
     ensures lands { LandsIn D.state D.honest side.node flown.journal flown.flying result.0.node }
@@ -52,7 +52,7 @@ fn arrive<D: Device, B: Room>(
         launch: _,
         room: _,
     } = flown;
-    launches.share(pass, &mut known);
+    lists.launches.share(pass, &mut known);
     side.land(journal, flying)
 }
 
@@ -72,10 +72,9 @@ impl<D: Device, B: Room> ShardPlace<D, B> {
     pub fn land<R: Wait>(
         &mut self,
         rt: &R,
-        launches: &Published<Launch>,
+        lists: &Lists<B>,
         flown: Flown<D, B>,
     ) -> Result<(), Flown<D, B>>
-        requires own { launches.now ≡ B.launches }
         ensures landed { OnOk result (HasLanded D.state D.honest self.old flown self.new) }
         ensures lands { IsOk result ↔ IsOutFor flown.launch self.old }
         ensures stays { IfErr result (λ back. (back ≡ flown) × (self.new ≡ self.old)) }
@@ -91,7 +90,7 @@ impl<D: Device, B: Room> ShardPlace<D, B> {
             }
         };
         let mut pass = self.pass.take(rt);
-        let (side, room) = arrive(launches, &mut pass, side, flown);
+        let (side, room) = arrive(lists, &mut pass, side, flown);
         self.pass = RestingPass::new(pass);
         drop(self.berth.replace(Berth::Here(side, room)));
         Ok(())

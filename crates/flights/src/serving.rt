@@ -12,27 +12,25 @@ ghost use Rattle.sides.specs.Lending.{IsSoundIn};
 ghost use Rattle.sides.specs.Sides.{IsLater, SideAnswers};
 ghost use Rattle.flights.specs.Flights.{IsOutOn};
 ghost use Rattle.flights.specs.Places.{is_flush};
-ghost use Rattle.flights.specs.declared.launch.Launch.{Launch as AnyLaunch};
+ghost use Rattle.sides.specs.declared.launch.Launch.{Launch as AnyLaunch};
 
 use away::Away;
 use calls::{Reply, ShardCall, Told};
 use device::Device;
-use published::{Published, SessionPass};
 use shard::ReadReply;
-use sides::{Room, ShardSide};
+use sides::{Lists, Pass, Room, ShardSide};
 use std::sync::Wait;
-use tuples::{Entry, Refusal};
+use tuples::Refusal;
 
 /// Makes the call of the shard, which is no flush and no read.
 pub(crate) fn serve<D: Device, B: Room, R: Wait>(
     rt: &R,
-    words: &Published<Entry>,
+    lists: &Lists<B>,
     side: &mut ShardSide<D, B>,
-    pass: &mut SessionPass<Entry>,
+    pass: &mut Pass<B>,
     told: &mut Told,
     call: ShardCall,
 ) -> Reply
-    requires own { (words.now ≡ B.log) × (pass.old.table ≡ B.log) }
     requires owed { MayAskShard B.shards side.old.number call }
     requires hands { B.rests → HandsOver pass.old.seen pass.old.horizon (of_shard side.old.number call) }
     requires no_flush { is_flush call ≡ false }
@@ -45,13 +43,13 @@ pub(crate) fn serve<D: Device, B: Room, R: Wait>(
 {
     match call {
         ShardCall::Learned => side.learned(told),
-        ShardCall::Learn(batch) => side.learn(rt, words, pass, told, batch),
+        ShardCall::Learn(batch) => side.learn(rt, lists, pass, told, batch),
         ShardCall::StagePrepare(intent) => side.stage_prepare(told, intent),
         ShardCall::Vote(ticket) => side.vote(told, ticket),
         ShardCall::DropWrite(verdict, held) => side.drop_write(told, verdict, held),
         ShardCall::InDoubt => side.in_doubt(told),
         ShardCall::Settle => side.settle(told),
-        ShardCall::Collect(heads) => side.collect(rt, words, pass, told, heads),
+        ShardCall::Collect(heads) => side.collect(rt, lists, pass, told, heads),
         // None of the others comes here.
         _ => unreachable!(),
     }
@@ -60,32 +58,30 @@ pub(crate) fn serve<D: Device, B: Room, R: Wait>(
 /// Makes the read of the shard, which stays as it is.
 pub(crate) fn look<D: Device, B: Room, R: Wait>(
     rt: &R,
-    words: &Published<Entry>,
+    lists: &Lists<B>,
     side: &ShardSide<D, B>,
-    pass: &mut SessionPass<Entry>,
+    pass: &mut Pass<B>,
     told: &mut Told,
     call: &ShardCall,
 ) -> Result<ReadReply, Refusal>
-    requires own { (words.now ≡ B.log) × (pass.old.table ≡ B.log) }
     requires reads { is_read call.now ≡ true }
     ensures answers { SideAnswers D.state D.honest D.moment D.left_since side.now call.now (from_shard (read_reply call.now result)) side.now }
     ensures caller { IsLater pass.old pass.new }
     ensures tells { B.rests → IsTold B.shards pass.new.seen (of_shard side.now.number call.now) (from_shard (read_reply call.now result)) }
     ensures told { Notes told.old (from_shard (read_reply call.now result)) told.new }
 {
-    side.look(rt, words, pass, told, call)
+    side.look(rt, lists, pass, told, call)
 }
 
 /// Makes a call of a shard that has its devices. It is as sound as before.
 pub(crate) fn serve_here<D: Device, B: Room, R: Wait>(
     rt: &R,
-    words: &Published<Entry>,
+    lists: &Lists<B>,
     side: &mut ShardSide<D, B>,
-    pass: &mut SessionPass<Entry>,
+    pass: &mut Pass<B>,
     told: &mut Told,
     call: ShardCall,
 ) -> Reply
-    requires own { (words.now ≡ B.log) × (pass.old.table ≡ B.log) }
     requires owed { MayAskShard B.shards side.old.number call }
     requires hands { B.rests → HandsOver pass.old.seen pass.old.horizon (of_shard side.old.number call) }
     requires no_flush { is_flush call ≡ false }
@@ -96,19 +92,18 @@ pub(crate) fn serve_here<D: Device, B: Room, R: Wait>(
     ensures tells { B.rests → IsTold B.shards pass.new.seen (of_shard side.old.number call) result }
     ensures told { Notes told.old result told.new }
 {
-    serve(rt, words, side, pass, told, call)
+    serve(rt, lists, side, pass, told, call)
 }
 
 /// Makes a call of a shard whose devices are out. What left with them stays the first of what is staged.
 pub(crate) fn serve_out<D: Device, B: Room, R: Wait>(
     rt: &R,
-    words: &Published<Entry>,
+    lists: &Lists<B>,
     side: &mut ShardSide<Away<D>, B>,
-    pass: &mut SessionPass<Entry>,
+    pass: &mut Pass<B>,
     told: &mut Told,
     call: ShardCall,
 ) -> Reply
-    requires own { (words.now ≡ B.log) × (pass.old.table ≡ B.log) }
     requires owed { MayAskShard B.shards side.old.number call }
     requires hands { B.rests → HandsOver pass.old.seen pass.old.horizon (of_shard side.old.number call) }
     requires no_flush { is_flush call ≡ false }
@@ -119,5 +114,5 @@ pub(crate) fn serve_out<D: Device, B: Room, R: Wait>(
     ensures tells { B.rests → IsTold B.shards pass.new.seen (of_shard side.old.number call) result }
     ensures told { Notes told.old result told.new }
 {
-    serve(rt, words, side, pass, told, call)
+    serve(rt, lists, side, pass, told, call)
 }

@@ -8,11 +8,10 @@ ghost use Rattle.calls.specs.declared.call.ShardCall.TheVariants.{Checkpoint as 
 use crate::landings::{ANY, Landings};
 use crate::spinning::{lock_soon, read_soon, write_soon};
 use crate::waiting::{Lands, awaited};
-use crate::{Flight, Launch, LaunchLog, Restart, ShardPlace};
+use crate::{Flight, LaunchLog, Restart, ShardPlace};
 use calls::{Reply, Told};
 use device::Device;
-use published::Published;
-use sides::Room;
+use sides::{Lists, Room};
 use std::alloc::Global;
 use std::sync::{Mutex, RwLock, RwLockReadGuard, RwLockWriteGuard, Wait};
 use tuples::Refusal;
@@ -75,11 +74,10 @@ impl<D: Device, B: Room> ShardCell<D, B> {
     fn leave<R: Wait>(
         &self,
         rt: &R,
-        launches: &Published<Launch>,
+        lists: &Lists<B>,
         log: &Mutex<LaunchLog<B>>,
         told: &mut Told,
     ) -> Result<Flight<D, B>, Reply>
-        requires own { launches.now ≡ B.launches }
         ensures belongs { (number : ℕ) → IfErr result (IsReplyTo (of_shard number flush_call)) }
         ensures told { MatchResult result (λ _. told.new ≡ told.old) (λ reply. Notes told.old reply told.new) }
     {
@@ -92,7 +90,7 @@ impl<D: Device, B: Room> ShardCell<D, B> {
             self.landings.pass_on(ticket);
             return Err(reply);
         }
-        let flight = place.launch(rt, launches, &mut lock_soon(rt, log));
+        let flight = place.launch(lists, &mut lock_soon(rt, log));
         match flight {
             Some(flight) => Ok(flight),
             None => {
@@ -106,21 +104,14 @@ impl<D: Device, B: Room> ShardCell<D, B> {
     }
 
     // Makes durable what flies, without the lock, and lands it.
-    fn fly<R: Wait>(
-        &self,
-        rt: &R,
-        launches: &Published<Launch>,
-        flight: Flight<D, B>,
-        told: &mut Told,
-    ) -> Reply
-        requires own { launches.now ≡ B.launches }
+    fn fly<R: Wait>(&self, rt: &R, lists: &Lists<B>, flight: Flight<D, B>, told: &mut Told) -> Reply
         ensures belongs { (number : ℕ) → IsReplyTo (of_shard number flush_call) result }
         ensures told { Notes told.old result told.new }
     {
         let flown = flight.fly();
         let mut place = self.lock(rt);
         // No other flight can have its devices.
-        let _ = place.land(rt, launches, flown);
+        let _ = place.land(rt, lists, flown);
         let next = place.ticket();
         let reply = place.tell_flushed(told);
         drop(place);
@@ -132,16 +123,15 @@ impl<D: Device, B: Room> ShardCell<D, B> {
     pub fn flush<R: Wait>(
         &self,
         rt: &R,
-        launches: &Published<Launch>,
+        lists: &Lists<B>,
         log: &Mutex<LaunchLog<B>>,
         told: &mut Told,
     ) -> Reply
-        requires own { launches.now ≡ B.launches }
         ensures belongs { (number : ℕ) → IsReplyTo (of_shard number flush_call) result }
         ensures told { Notes told.old result told.new }
     {
-        match self.leave(rt, launches, log, told) {
-            Ok(flight) => self.fly(rt, launches, flight, told),
+        match self.leave(rt, lists, log, told) {
+            Ok(flight) => self.fly(rt, lists, flight, told),
             Err(reply) => reply,
         }
     }

@@ -13,17 +13,16 @@ ghost use Rattle.sides.specs.Sides.{IsLater};
 ghost use Rattle.ties.specs.ShardTies.{RowsAnywhere};
 ghost use Rattle.flights.specs.Places.{HasOpened, PlaceAnswers, bank_len_at, is_flush, number_at};
 
-use crate::Launch;
 use crate::berth::Berth;
 use crate::serving::{look, serve_here, serve_out};
 use away::Away;
 use calls::{Reply, ShardCall, Told};
 use device::Device;
 use journal::BatchRoom;
-use published::{Published, RestingPass, SessionPass, SharedPass};
+use published::{RestingPass, SessionPass, SharedPass};
 use records::Identity;
 use shard::ReadReply;
-use sides::{Room, ShardSide};
+use sides::{Launch, Lists, Pass, Room, ShardSide};
 use std::alloc::Global;
 use std::marker::Model;
 use std::sync::Wait;
@@ -122,12 +121,11 @@ impl<D: Device, B: Room> ShardPlace<D, B> {
     pub fn ask<R: Wait>(
         &mut self,
         rt: &R,
-        words: &Published<Entry>,
-        pass: &mut SessionPass<Entry>,
+        lists: &Lists<B>,
+        pass: &mut Pass<B>,
         told: &mut Told,
         call: ShardCall,
     ) -> Reply
-        requires own { (words.now ≡ B.log) × (pass.old.table ≡ B.log) }
         requires owed { MayAskShard B.shards (number_at self.old) call }
         requires hands { B.rests → HandsOver pass.old.seen pass.old.horizon (of_shard (number_at self.old) call) }
         requires no_flush { is_flush call ≡ false }
@@ -140,8 +138,8 @@ impl<D: Device, B: Room> ShardPlace<D, B> {
         ensures told { Notes told.old result told.new }
     {
         match &mut self.berth {
-            Some(Berth::Here(side, _)) => serve_here(rt, words, side, pass, told, call),
-            Some(Berth::Out(side, _)) => serve_out(rt, words, side, pass, told, call),
+            Some(Berth::Here(side, _)) => serve_here(rt, lists, side, pass, told, call),
+            Some(Berth::Out(side, _)) => serve_out(rt, lists, side, pass, told, call),
             None => unreachable!(),
         }
     }
@@ -151,12 +149,11 @@ impl<D: Device, B: Room> ShardPlace<D, B> {
     pub fn look<R: Wait>(
         &self,
         rt: &R,
-        words: &Published<Entry>,
-        pass: &mut SessionPass<Entry>,
+        lists: &Lists<B>,
+        pass: &mut Pass<B>,
         told: &mut Told,
         call: &ShardCall,
     ) -> Result<ReadReply, Refusal>
-        requires own { (words.now ≡ B.log) × (pass.old.table ≡ B.log) }
         requires reads { is_read call.now ≡ true }
         ensures answers { PlaceAnswers D.state D.honest D.moment D.left_since self.now call.now (from_shard (read_reply call.now result)) self.now }
         ensures belongs { IsReplyTo (of_shard (number_at self.now) call.now) (from_shard (read_reply call.now result)) }
@@ -165,8 +162,8 @@ impl<D: Device, B: Room> ShardPlace<D, B> {
         ensures told { Notes told.old (from_shard (read_reply call.now result)) told.new }
     {
         match &self.berth {
-            Some(Berth::Here(side, _)) => look(rt, words, side, pass, told, call),
-            Some(Berth::Out(side, _)) => look(rt, words, side, pass, told, call),
+            Some(Berth::Here(side, _)) => look(rt, lists, side, pass, told, call),
+            Some(Berth::Out(side, _)) => look(rt, lists, side, pass, told, call),
             None => unreachable!(),
         }
     }

@@ -57,7 +57,7 @@ pub(crate) enum Asking {
 }
 
 impl Asking {
-    /// A write is none.
+    /// A write is not one.
     pub(crate) fn new(alloc: Global, request: Request) -> Result<Asking, Refusal> {
         match request {
             Request::Write(_) => Err(Refusal::BadRequest),
@@ -76,7 +76,7 @@ impl Asking {
         }
     }
 
-    /// Makes its next call, and gives it the reply; none where it has ended.
+    /// Makes its next call, and gives it the reply; none if it has ended.
     pub(crate) fn turn<D: Device>(
         &mut self,
         store: &mut Store<D>,

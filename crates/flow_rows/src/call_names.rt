@@ -1,4 +1,4 @@
-// The names of calls, as a script has them, with the node behind them.
+// The names of calls, as a script has them, with the node after them.
 use names::{CallName, NodeName};
 use std::alloc::AllocError;
 

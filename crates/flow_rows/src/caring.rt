@@ -26,7 +26,7 @@ fn is_there(care: Care) -> bool
     }
 }
 
-/// A care of a store of two shards; none where its node is not there.
+/// A care of a store of two shards; none if its node is not there.
 pub(crate) fn begin_care(alloc: Global, care: Care) -> Option<CareFlow>
     ensures { IfSome result (λ f. IsThere 2 f) }
 {
@@ -36,7 +36,7 @@ pub(crate) fn begin_care(alloc: Global, care: Care) -> Option<CareFlow>
     Some(CareFlow::new(alloc, shards(), care))
 }
 
-/// Makes so many of its calls, and logs them; fewer where it ends before.
+/// Makes this many of its calls, and logs them; fewer if it ends before.
 pub(crate) fn turn_all<D: Device>(
     flow: &mut CareFlow,
     turns: usize,

@@ -2,11 +2,11 @@
 //! it by the program `harness`.
 //!
 //! Keeps: each row has a store of its own, over disks in memory.
-//! Never: makes a call that no flow asks for, but for a flush and an opening that a step names.
+//! Never: makes a call that no flow asks for, except for a flush and an opening that a step names.
 //! Callers rely on: a line for each row, in their order; an empty line ends a row.
 //!
-//! Start at `steps.rt`, what the lines of a row say, and `plays.rt`, what a row does with a store. Whatever calls a node is generic over its
-//! devices: a call at a disk in memory itself takes longer to prove.
+//! Start at `steps.rt`, what the lines of a row say, and `plays.rt`, what a row does with a store. Whatever calls a node is generic over its devices: a call
+//! at a disk in memory itself takes longer to prove.
 #![tactic(auto)]
 
 mod asking;
@@ -31,7 +31,7 @@ fn played(alloc: Global, row: &str) -> Result<String, Refusal> {
     play(alloc, new_disks(alloc, 6)?, row)
 }
 
-/// Plays each row of the text, and writes what it did, a line a row; of one that could not be played why not.
+/// Plays each row of the text, and writes what it did, a line a row, or why it could not be played.
 pub fn run<R: Read + Drop, W: Write>(alloc: Global, reader: R, writer: &mut W) -> io::Result<()> {
     let text = io::read_to_string(alloc, reader)?;
     for row in text.split("\n\n") {

@@ -69,7 +69,7 @@ pub(crate) fn log_care(log: &mut String, end: Option<CareEnd>) -> Result<(), Ref
     Ok(())
 }
 
-// An event by its place, and whether the tuple is there behind it.
+// An event by its place, and whether the tuple is there after it.
 fn log_event(log: &mut String, event: &Version) -> Result<(), Refusal> {
     push_number(log, event.place)?;
     log.push_str(match &event.change {
@@ -95,7 +95,7 @@ pub(crate) fn log_watch(log: &mut String, end: Option<WatchEnd>) -> Result<(), R
     Ok(())
 }
 
-// A tuple behind the number of its tupleset.
+// A tuple after the number of its tupleset.
 fn log_row(alloc: Global, log: &mut String, number: u64, row: &Tuple) -> Result<(), Refusal> {
     log.push_str(", ")?;
     push_number(log, number)?;

@@ -45,7 +45,7 @@ impl<D: Device> Playing<D> {
         Ok(())
     }
 
-    /// The write that was begun last makes so many calls, which are not logged.
+    /// The write that was begun last makes this many calls, which are not logged.
     pub(crate) fn turn_quietly(&mut self, turns: usize) {
         if let Some(flow) = self.writes.last_mut() {
             for _ in 0..turns {
@@ -56,7 +56,7 @@ impl<D: Device> Playing<D> {
         }
     }
 
-    /// The write makes so many calls.
+    /// The write makes this many calls.
     pub(crate) fn turn(&mut self, flow: usize, turns: usize) -> Result<(), Refusal> {
         let Some(flow) = self.writes.get_mut(flow) else {
             return Err(Refusal::BadRequest);
@@ -103,7 +103,7 @@ impl<D: Device> Playing<D> {
         log_care(&mut self.log, end)
     }
 
-    /// A care makes so many calls; then the node is opened again, and the care goes to its end.
+    /// A care makes this many calls; then the node is opened again, and the care goes to its end.
     pub(crate) fn care_across(
         &mut self,
         alloc: Global,
@@ -149,7 +149,7 @@ impl<D: Device> Playing<D> {
         Ok(())
     }
 
-    /// The one that was begun last makes so many calls.
+    /// The one that was begun last makes this many calls.
     pub(crate) fn ask(&mut self, turns: usize) -> Result<(), Refusal> {
         let Some(question) = self.questions.last_mut() else {
             return Err(Refusal::BadRequest);
@@ -231,7 +231,7 @@ impl<D: Device> Playing<D> {
     }
 }
 
-/// The calls that the flows of a row made, and how each ended that was run to its end.
+/// The calls that the flows of a row made, and how each that was run to its end ended.
 pub(crate) fn play<D: Device>(
     alloc: Global,
     devices: Vec<D>,

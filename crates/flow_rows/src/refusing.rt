@@ -35,7 +35,7 @@ impl Refusing {
         Ok(())
     }
 
-    /// One more is asked for. Its refusal, where it is not made.
+    /// One more is asked for. Returns its refusal, if it is not made.
     pub(crate) fn next(&mut self) -> Option<Refusal> {
         self.asked = self.asked.saturating_add(1);
         for unmade in &self.unmade {
@@ -52,7 +52,7 @@ impl Refusing {
     }
 }
 
-/// What is answered for a call that is not made. A decision gives its intent back, as one for which there is no room.
+/// What is answered for a call that is not made. A decision returns its intent, as one for which there is no room.
 pub(crate) fn answer(refusal: Refusal, call: NodeCall) -> Reply
     ensures { IsReplyTo call result }
 {

@@ -8,7 +8,7 @@ use names::NodeName;
 use std::alloc::Global;
 use tuples::{Refusal, Request};
 
-/// More turns than any flow of a row makes, so that one that is not at its end behind them has none.
+/// More turns than any flow of a row makes, so that one that is not at its end after them has none.
 pub(crate) const MOST_TURNS: usize = 20_000;
 
 // The node that a line of a script opens again.
@@ -23,7 +23,7 @@ fn restarted(alloc: Global, line: &str) -> Result<NodeName, Refusal> {
 }
 
 impl<D: Device> Playing<D> {
-    /// Does what the line says; `BadRequest` where it says nothing.
+    /// Does what the line says; `BadRequest` if it says nothing.
     pub(crate) fn step(&mut self, alloc: Global, line: &str) -> Result<(), Refusal> {
         let (word, rest) = line.split_once(' ').unwrap_or((line, ""));
         if let Some(done) = self.step_write(alloc, word, rest) {
@@ -38,8 +38,8 @@ impl<D: Device> Playing<D> {
         self.carry_out(alloc, line)
     }
 
-    // `start write ..` begins a write; `quiet N` has the write that was begun last make so many calls, which are not logged; `turn F N` has a
-    // write make so many, `run F` goes to its end, and `cancel F` cancels it.
+    // `start write ..` begins a write; `quiet N` has the write that was begun last make N calls, which are not logged; `turn F N` has a write
+    // make N, `run F` goes to its end, and `cancel F` cancels it.
     fn step_write(&mut self, alloc: Global, word: &str, rest: &str) -> Option<Result<(), Refusal>> {
         if word == "start" {
             return Some(self.start(alloc, rest));
@@ -68,8 +68,8 @@ impl<D: Device> Playing<D> {
         self.run(number(rest)?)
     }
 
-    // `begin read ..`, of a check and a watch too; `step N` has it make so many calls, and `end` goes to its end. `only read ..` goes to its
-    // end, and its calls are not logged.
+    // `begin read ..`, of a check and a watch too; `step N` has it make N calls, and `end` goes to its end. `only read ..` goes to its end,
+    // and its calls are not logged.
     fn step_question(
         &mut self,
         alloc: Global,
@@ -105,8 +105,8 @@ impl<D: Device> Playing<D> {
         self.ask(number(rest)?)
     }
 
-    // `flushed flush c` makes that node durable, and no flow asks for it; `across N restart 1, learn 1` has a care make so many calls, opens
-    // the node again, and has the care go on to its end; `refuse N Full` has the n-th call from now on not made, and answered so.
+    // `flushed flush c` makes that node durable, and no flow asks for it; `across N restart 1, learn 1` has a care make N calls, opens the
+    // node again, and has the care go on to its end; `refuse N Full` has the N-th call from now on not made, and answered so.
     fn step_nodes(&mut self, alloc: Global, word: &str, rest: &str) -> Option<Result<(), Refusal>> {
         if word == "flushed" {
             return Some(self.flush_by(alloc, rest));

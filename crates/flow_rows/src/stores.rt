@@ -34,7 +34,7 @@ pub(crate) struct Store<D: Device> {
     refusing: Refusing,
 }
 
-/// So many new disks; each node takes two.
+/// This many new disks; each node takes two.
 pub(crate) fn new_disks(alloc: Global, count: usize) -> Result<Vec<SimDisk>, Refusal> {
     let mut disks = Vec::new(alloc);
     for _ in 0..count {
@@ -57,12 +57,12 @@ fn two_of<D: Device>(devices: &mut Vec<D>) -> Option<(D, D)> {
     }
 }
 
-/// The coordinator of a store of so many shards.
+/// The coordinator of a store of this many shards.
 pub(crate) fn open_coordinator<D: Device>(alloc: Global, a: D, b: D, shards: Shards) -> Node<D> {
     Node::open_coordinator(alloc, a, b, Identity::coordinator(STORE, shards))
 }
 
-/// One of so many shards.
+/// One of this many shards.
 pub(crate) fn open_shard<D: Device>(alloc: Global, a: D, b: D, shards: Shards, shard: u8) -> Node<D>
     requires { shard < shards }
 {
@@ -89,7 +89,7 @@ fn revived<D: Device>(node: Node<D>) -> (D, D) {
     (a, b)
 }
 
-/// Makes the call at a node of a store of so many shards, where it is the one that is named.
+/// Makes the call at a node of a store of this many shards, if it is the one that is named.
 pub(crate) fn ask_at<D: Device>(
     node: &mut Option<Node<D>>,
     shards: Shards,
@@ -110,7 +110,7 @@ pub(crate) fn ask_at<D: Device>(
     }
 }
 
-// The node in this place is opened again, where one is there.
+// The node in this place is opened again, if one is there.
 fn open_again<D: Device>(alloc: Global, place: &mut Option<Node<D>>, name: NodeName) {
     let Some(node) = place.take() else {
         return;

@@ -9,7 +9,7 @@ use device::Device;
 use std::alloc::Global;
 use tuples::{Refusal, Write};
 
-/// Makes its next call, and gives it the reply; none where it has ended.
+/// Makes its next call, and gives it the reply; none if it has ended.
 pub(crate) fn turn<F: Running, D: Device>(
     flow: &mut F,
     store: &mut Store<D>,
@@ -38,7 +38,7 @@ impl Turning {
         Ok(Turning { flow })
     }
 
-    /// Makes its next call, and gives it the reply; none where it has ended.
+    /// Makes its next call, and gives it the reply; none if it has ended.
     pub(crate) fn turn<D: Device>(
         &mut self,
         store: &mut Store<D>,

@@ -21,7 +21,7 @@ none_held seen b none = absurd (let bad : None ≡ Some b = none in cc)
 pub one_held : (seen : List Entry) (b : BatchValue) → IsBatchOf seen b → IsHeld seen (Some b)
 one_held seen b is x same = subst (IsBatchOf seen) (same_Some b x same) is
 
--- what is held behind a reply
+-- what is held after a reply
 abbrev pub HoldsOn : List Entry → Progress → Type 0
 HoldsOn seen (Next c) = IsHeld seen c.batch
 HoldsOn seen There = Unit {0}
@@ -65,7 +65,7 @@ module _ (later : List Entry) (given : CatchUpCallValue) where
   by_flush (Ok done) progress held gives = subst (HoldsOn later) (sym gives) held
   by_flush (Err e) progress held gives = subst (HoldsOn later) (sym gives) tt
 
--- What a reply makes of a catch-up that held a part of the list holds a part of it, where the reply tells what is of the list.
+-- What a reply makes of a catch-up that held a part of the list holds a part of it, if the reply tells what is of the list.
 module _ (shards : ℕ) (later : List Entry) (v : CatchUpValue) (then given : CatchUpCallValue) (awaited_is : given.awaited ≡ then.awaited) (batch_is : given.held.batch ≡ then.held.batch) (held : IsHeld later v.batch) where
   same_batch : then.held.batch ≡ v.batch → IsHeld later given.held.batch
   same_batch is = subst (IsHeld later) (sym (batch_is ∙ is)) held

@@ -1,4 +1,4 @@
--- A place that heads refuse is not there, where they tell no less than what is seen, and no horizon above the one that is. A call that may be made is one of a
+-- A place that heads refuse is not there, if they tell no less than what is seen, and no horizon above the one that is. A call that may be made is one of a
 -- node that is there.
 use Rattle.std.proofs.Common.{inl, inr, ⊎_elim, ℕ, ◌≤◌, List, length, arith}
 use Rattle.flow_ties.proofs.Words.{at_least, Coordinator, Entry, exact, Freshness, HeadsValue, latest, MayBeMade, NodeCall, Refusal, Shard}

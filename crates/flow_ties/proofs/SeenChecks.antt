@@ -88,7 +88,7 @@ module _ (seen : List Entry) (fresh : Freshness) (x : Userset) (u : User) where
         subst (λ (end : CheckEnding). Told end) same is_so;
   }
 
-  -- it goes on to the first userset that waits, says no where none does, or is refused
+  -- it goes on to the first waiting userset, says no if there is none, or is refused
   continues : (place : ℕ) (h : CheckHolds) (after : CheckView) → h.place ≡ Some place → HoldsWalk seen fresh x u place h → IsHeld seen h.batch → Continues place h after → Is after
   continues place h after at holds batch gives = by_waiting h.waiting refl
     where
@@ -106,7 +106,7 @@ module _ (seen : List Entry) (fresh : Freshness) (x : Userset) (u : User) where
           some : h.waiting ≢ []
           some none = let bad : y ∷ rest ≡ [] = sym is ∙ none in cc
 
-  -- what it holds where it has just found its place
+  -- what it holds when it has just found its place
   pub begins_with : (place : ℕ) (h : CheckHolds) → place ≤ length seen → IsAsAsked fresh place → (h.walked ≡ []) × (h.waiting ≡ x ∷ []) → HoldsWalk seen fresh x u place (record h { place = Some place })
   begins_with place h le wanted empty = record {
     there = le;
@@ -160,7 +160,7 @@ module _ (seen : List Entry) (fresh : Freshness) (x : Userset) (u : User) where
         (caught shards seen asks.way asks.out it.call it.is_awaited (it.holds ∙ ap (λ (h : CheckHolds). h.batch) same) (subst (IsHeld seen) (sym asks.batch) is.batch) call reply it.progress asks.asks belongs is_told it.gives)
         it.then_gives
 
-    -- it reads the first userset that waits, at its shard
+    -- it reads the first waiting userset, at its shard
     module _ (y : Userset) (place : ℕ) (at : v.holds.place ≡ Some place) (first : slice_get v.holds.waiting 0 ≡ Some y) where
       old : HoldsWalk seen fresh x u place v.holds
       old = is.held place at

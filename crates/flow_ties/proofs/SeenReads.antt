@@ -102,7 +102,7 @@ module _ (shards : ℕ) (seen : List Entry) (fresh : Freshness) (sets : List Tup
         subst (λ (end : ReadEnding). Told end) same are;
   }
 
-  -- it goes on to its next tupleset, or answers behind the last one
+  -- it goes on to its next tupleset, or answers after the last one
   continues : (place : ℕ) (h : ReadHolds) (after : ReadView) → h.place ≡ Some place → HoldsRows shards seen fresh sets place h → IsHeld seen h.batch → Continues sets place h after → Is after
   continues place h after at holds batch gives = ⊎_elim
       (λ (lt : length h.done < length sets). ⊎_elim
@@ -112,7 +112,7 @@ module _ (shards : ℕ) (seen : List Entry) (fresh : Freshness) (sets : List Tup
       (λ (le : length sets ≤ length h.done). subst Is (sym (gives.last le)) (answered place h.done (record { there = holds.there; wanted = holds.wanted; all = let few = holds.few in omega (arith, le, few); each = holds.done })))
       (cases_lt (length h.done) (length sets))
 
-  -- what it holds where it has just found its place
+  -- what it holds when it has just found its place
   begins_with : (place : ℕ) → place ≤ length seen → IsAsAsked fresh place → HoldsRows shards seen fresh sets place (record nothing_read { place = Some place })
   begins_with place le wanted = record {
     there = le;

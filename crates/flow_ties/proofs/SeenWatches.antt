@@ -60,7 +60,7 @@ module _ (cursor limit : ℕ) (names : List (List ℕ)) (before shards : ℕ) (s
   by_flush (Ok done) after gives = subst Is (sym gives) (rests heads)
   by_flush (Err e) after gives = subst Is (sym gives) (is_refused e)
 
-  -- a part of the list behind the cursor, up to a place, is what there is to list
+  -- a part of the list after the cursor, up to a place, is what there is to list
   are_events : (place : ℕ) (b : BatchValue) → b.from ≡ cursor → length b.writes ≡ place - cursor → AreOfLog seen b.from b.writes → events_from (b.from + 1) names b.writes ≡ events seen cursor place names
   unfolding events
   are_events place b from_is size of_list =

@@ -25,11 +25,11 @@ module _ (t : Tuple) where
           (subst (λ (x : List Tuple). IsSelection (is_at [] 0) (Key t) x) (same_Some [] rows at_row) nothing_selected)
       each (suc i) q rows at_set at_row = absurd (cc at_set)
 
-  -- a row that was never written is none
+  -- a row that was never written is no answer
   never_written : AreRowsAt [] latest (Key t ∷ []) 0 ((t ∷ []) ∷ []) → ⊥
   never_written answer = let selects = answer.each 0 (Key t) (t ∷ []) refl refl in true≢false (sym ((selects.exact t).0 (0, omega arith, refl)).0 ∙ none_there t)
 
-  -- an answer to another number of questions is none
+  -- an answer to another number of questions is no answer
   one_too_few : AreRowsAt [] latest (Key t ∷ []) 0 [] → ⊥
   one_too_few answer = let all = answer.all in omega (arith, all)
 
@@ -44,7 +44,7 @@ module _ (t : Tuple) where
 nobody : (x : Userset) (u : User) → IsMembershipAt [] latest x u 0 true → ⊥
 nobody x u answer = let member = answer.member.0 refl in true≢false (sym member.last ∙ none_there _)
 
--- nor is it too far to go at a place where nobody asked, whatever can be reached there
+-- nor is it too far to go at a place if nobody asked, whatever can be reached there
 elsewhere : (x : Userset) → IsTooFar [] (IsAsAsked (exact 3)) x → ⊥
 elsewhere x far =
     let there = far.there in
@@ -55,7 +55,7 @@ elsewhere x far =
 above_all : HasReason [] (exact 3) [] 0 Future
 above_all = inr (inr (inl (refl, omega arith)))
 
--- and one that is there has none, where no reply has told any
+-- and one that is there has none, if no reply has told any
 is_there : HasReason [] (exact 0) [] 0 Future → ⊥
 is_there reason = ⊎_elim
     (λ told. absurd (cc told))

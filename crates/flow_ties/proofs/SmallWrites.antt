@@ -60,13 +60,13 @@ cancelled : RefusesAsTold 1 [] (view_ended Cancelled) → ⊥
 cancelled it = it.ends_uncancelled refl
 
 module _ (names : List (List ℕ)) where
-  -- A watch behind the beginning lists the change up to the place, or no change of no place: that only where no more had been seen.
+  -- A watch after the beginning lists the change up to the place, or no change of no place: that only if no more had been seen.
   lists_all : AreEventsTo 0 1 names 1 one 1 (events one 0 1 names)
   lists_all = record { there = omega arith; behind = omega arith; within = omega arith; far = inr (omega arith); all = refl }
 
   stops_early : AreEventsTo 0 1 names 1 one 0 (events one 0 0 names) → ⊥
   stops_early it = ⊎_elim (λ all. omega (arith, all)) (λ seen. omega (arith, seen)) it.far
 
-  -- a place that the list does not have is none
+  -- a place that the list does not have is no answer
   no_such_place : (changes : List Placed) → AreEventsTo 0 2 names 1 one 2 changes → ⊥
   no_such_place changes it = let there = it.there in omega (arith, there)

@@ -118,7 +118,7 @@ module _ (fresh : Freshness) (x : Userset) (u : User) (marks : List Bool) (seen 
         let it : CatchUpGives out asks.out.awaited reply after = gives (catch_up_call asks.out.awaited) (ap (λ (o : CheckView). o.awaited) asks.waits) in
         by_progress out it.progress after (λ e is_e. carried e (call_carries it.call it.progress e is_e asks.way asks.out it.is_awaited call reply asks.asks belongs it.gives)) it.then_gives
 
-    -- it reads the first userset that waits, at its shard
+    -- it reads the first waiting userset, at its shard
     module _ (y : Userset) (place : ℕ) (at : v.holds.place ≡ Some place) (first : slice_get v.holds.waiting 0 ≡ Some y) where
       met : HoldsWalk seen fresh x u place v.holds
       met = is.held place at

@@ -203,14 +203,14 @@ module _ (shards : ℕ) (old new : List Bool) (v after : WriteView) (was : Refus
   inquired is_leaving out (from_coordinator (told.Inquire (Err e))) notes same there gives = leaves shards old new v (from_coordinator (told.Inquire (Err e))) notes was is_leaving out.holds.way after same gives
   inquired is_leaving out reply notes same there gives = absurd gives
 
-  -- What a shard answers that was to drop a write is of no account.
+  -- What a shard that was to drop a write answers is of no account.
   dropped : IsOnItsWayOut v → (out : WriteView) (reply : Reply) → ((e : AnyRefusal) → HasTold old e → HasTold new e) → out.holds.way ≡ v.holds.way → AreThere shards out.holds.tickets → GivesTo out waits.drop_write reply after → Is
   dropped is_leaving out (from_shard (told_by.DropWrite verdict r)) kept same there gives =
       let done : Reply = from_shard (told_by.DropWrite verdict (Ok tt)) in
       drops shards old new v done (record { kept = kept; carried = λ e none. absurd (let bad : None ≡ Some e = none in cc) }) was is_leaving out verdict.id after same there gives
   dropped is_leaving out reply kept same there gives = absurd gives
 
-  -- behind what a shard gave, the other tickets
+  -- after what a shard gave, the other tickets
   behind_given : (s : ℕ) (given : Held) (tickets : List HeldTicket) → AreThere shards (as_tickets s given ++ tickets) → AreThere shards tickets
   behind_given s (Ticket t) tickets all = All-tail (λ (t : HeldTicket). t.shard < shards) (ticket_value (s, t)) tickets all
   behind_given s (held_vote v) tickets all = all

@@ -90,12 +90,12 @@ pub record IsTooFar (seen : List Entry) (is_wanted : ℕ → Type 0) (x : Userse
 abbrev pub CheckHasReason : List Bool → Freshness → List Entry → ℕ → Userset → CheckView → Type 0
 CheckHasReason marks fresh seen low x v = (e : Refusal) → v.ended ≡ Some (refused e) → HasReason marks fresh seen low e ⊎ ((e ≡ Full) × IsTooFar seen (IsAsAsked fresh) x)
 
--- between two calls, and so where it begins, it has not ended
+-- between two calls, and so when it begins, it has not ended
 abbrev pub ChecksAtRestHaveReason : Type 0
 ChecksAtRestHaveReason = (fresh : Freshness) (x : Userset) (marks : List Bool) (seen : List Entry) (low : ℕ) (step : CheckStep) (h : CheckHolds) → CheckHasReason marks fresh seen low x (at_rest step h)
 
--- Where heads tell no less than what is seen, and no horizon above the one that is, a reply ends a check with a refusal only for a reason. What it holds is a walk over
--- the list: so, where it stops at the most that it may walk, more can be reached there.
+-- If heads tell no less than what is seen, and no horizon above the one that is, a reply ends a check with a refusal only for a reason. What it holds is a walk over
+-- the list: so, if it stops at the most that it may walk, more can be reached there.
 abbrev pub ChecksRefuseForAReason : Type 0
 ChecksRefuseForAReason = (shards : ℕ) (fresh : Freshness) (x : Userset) (u : User) (old new : List Bool) (seen : List Entry) (low : ℕ) (v out after : CheckView) (call : NodeCall) (reply : Reply)
     → v.ended ≡ None → IsCheckOf seen fresh x u v → Asks shards u v call out → IsReplyTo call reply → IsTold shards seen call reply

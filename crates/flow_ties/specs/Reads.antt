@@ -88,12 +88,12 @@ ReadHasReason marks fresh seen low v = (e : Refusal) → v.ended ≡ Some (refus
 abbrev pub ReadsAtRestHaveReason : Type 0
 ReadsAtRestHaveReason = (fresh : Freshness) (marks : List Bool) (seen : List Entry) (low : ℕ) (step : ReadStep) (h : ReadHolds) → ReadHasReason marks fresh seen low (at_rest step h)
 
--- where it begins at a place of the list, memory alone can be refused
+-- if it begins at a place of the list, only memory can be refused
 abbrev pub ReadsBeginForAReason : Type 0
 ReadsBeginForAReason = (sets : List Tupleset) (place : ℕ) (v : ReadView) → Continues sets place (record nothing_read { place = Some place }) v
     → (e : Refusal) → v.ended ≡ Some (refused e) → e ≡ NoMemory
 
--- Where heads tell no less than what is seen, and no horizon above the one that is, a reply ends a read with a refusal only for a reason.
+-- If heads tell no less than what is seen, and no horizon above the one that is, a reply ends a read with a refusal only for a reason.
 abbrev pub ReadsRefuseForAReason : Type 0
 ReadsRefuseForAReason = (shards : ℕ) (fresh : Freshness) (sets : List Tupleset) (old new : List Bool) (seen : List Entry) (low : ℕ) (v out after : ReadView) (call : NodeCall) (reply : Reply)
     → Asks shards sets v call out → IsReplyTo call reply → ((awaited : ReadAwaited) → out.awaited ≡ Some awaited → GivesTo shards fresh sets out awaited reply after)

@@ -12,7 +12,7 @@ use Rattle.calls.specs.declared.reply.Reply.{Reply}
 use Rattle.calls.specs.declared.reply.Reply.TheVariants.{Coordinator as from_coordinator}
 use Rattle.calls.specs.declared.reply.CoordinatorReply.TheVariants as told
 
--- the node that a call names is there, in a store of so many shards
+-- the node that a call names is there, in a store of this many shards
 abbrev pub IsAtNode : ℕ → NodeCall → Type 0
 IsAtNode shards (Coordinator call) = Unit {0}
 IsAtNode shards (Shard s call) = s < shards
@@ -27,7 +27,7 @@ abbrev pub TellsReach : List Entry → NodeCall → Reply → Type 0
 TellsReach seen (Coordinator Heads) (from_coordinator (told.Heads (Ok heads))) = length seen ≤ heads.length
 TellsReach seen call reply = Unit {0}
 
--- The place that was asked for is not there: it lies above all that there is, or, where it has to be just that one, below the horizon.
+-- The place that was asked for is not there: it lies above all that there is, or, if it has to be just that one, below the horizon.
 abbrev pub IsPlaceRefused : Freshness → List Entry → ℕ → Refusal → Type 0
 IsPlaceRefused latest seen low e = ⊥
 IsPlaceRefused (at_least z) seen low e = (e ≡ Future) × (length seen < z)

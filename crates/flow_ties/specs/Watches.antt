@@ -21,15 +21,15 @@ use Rattle.flow_ties.specs.Refusing.{HasReason, Notices, TellsReach}
 use Rattle.flow_ties.specs.Cares.{TellsCare}
 
 -- What a reply tells a watch beside what it tells each flow. Heads tell a kept place that is no less than what had been seen; and a batch has all that was
--- asked for, where that is no more than a watch may ask for.
+-- asked for, if that is no more than a watch may ask for.
 abbrev pub TellsWatcher : ℕ → NodeCall → Reply → Type 0
 TellsWatcher before (Coordinator Heads) (from_coordinator (told.Heads (Ok h))) = before ≤ h.kept
 TellsWatcher before (Coordinator (Batch from to)) (from_coordinator (told.Batch (Ok b))) = (b.from ≡ from) × (to ≤ from + max_watched → from ≤ to → length b.writes ≡ to - from)
 TellsWatcher before call reply = Unit {0}
 
--- Of a watch behind a cursor, over so many places at most, in these namespaces; so much of the list had been seen before it.
+-- Of a watch after a cursor, over at most this many places, in these namespaces; this much of the list had been seen before it.
 module _ (cursor limit : ℕ) (names : List (List ℕ)) (before : ℕ) where
-  -- All changes in its namespaces from behind its cursor up to this place of the list, and no others. It is as far as was asked for, or as far as had been
+  -- All changes in its namespaces from after its cursor up to this place of the list, and no others. It is as far as was asked for, or as far as had been
   -- seen.
   pub record AreEventsTo (seen : List Entry) (place : ℕ) (changes : List Placed) : Type 0 where
     pub there : place ≤ length seen
@@ -76,11 +76,11 @@ WatchesListWhatIsSeen = (cursor limit : ℕ) (names : List (List ℕ)) (before s
 abbrev pub WatchHasReason : List Bool → ℕ → List Entry → ℕ → WatchView → Type 0
 WatchHasReason marks cursor seen low v = (e : Refusal) → v.ended ≡ Some (refused e) → HasReason marks (exact cursor) seen low e
 
--- between two calls, and so where it begins, it has not ended
+-- between two calls, and so when it begins, it has not ended
 abbrev pub WatchesAtRestHaveReason : Type 0
 WatchesAtRestHaveReason = (cursor : ℕ) (marks : List Bool) (seen : List Entry) (low : ℕ) (step : WatchCall) (h : HeadsHeld) → WatchHasReason marks cursor seen low (at_rest step h)
 
--- Where heads tell no less than what is seen, and no horizon above the one that is, a reply ends a watch with a refusal only for a reason.
+-- If heads tell no less than what is seen, and no horizon above the one that is, a reply ends a watch with a refusal only for a reason.
 abbrev pub WatchesRefuseForAReason : Type 0
 WatchesRefuseForAReason = (shards cursor limit : ℕ) (names : List (List ℕ)) (old new : List Bool) (seen : List Entry) (low : ℕ) (v out after : WatchView) (call : NodeCall) (reply : Reply)
     → Asks cursor limit v call out → IsReplyTo call reply → ((awaited : WatchCall) → out.awaited ≡ Some awaited → GivesTo cursor limit names out awaited reply after)

@@ -31,7 +31,7 @@ pub record IsOfRequest (asked : WriteValue) (w : Entry) : Type 0 where
   pub changes : w.changes ≡ asked.changes
   pub conditions : w.conditions ≡ asked.conditions
 
--- The write that was asked for stands at the place, above so many places, and its id nowhere else in the list.
+-- The write that was asked for stands at the place, above this many places, and its id nowhere else in the list.
 pub record IsWrittenAt (asked : WriteValue) (above : ℕ) (seen : List Entry) (place : ℕ) : Type 0 where
   pub write : Entry
   pub is_asked : IsOfRequest asked write
@@ -120,7 +120,7 @@ pub record RefusesAsTold (shards : ℕ) (marks : List Bool) (v : WriteView) : Ty
   pub goes_uncancelled : v.holds.way ≢ outward None
   pub ends_uncancelled : v.ended ≢ Some Cancelled
 
--- a write that is not begun is refused by nothing
+-- nothing refuses a write that is not begun
 abbrev pub WritesBeginUntold : Type 0
 WritesBeginUntold = (shards : ℕ) (marks : List Bool) (write : WriteValue) → RefusesAsTold shards marks (unbegun write)
 

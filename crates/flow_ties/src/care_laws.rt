@@ -6,7 +6,7 @@ pub fn cares_begin()
     ensures { CaresBegin }
 {}
 
-/// What a care holds is of each longer list, and of each later horizon.
+/// What a care holds is also of each longer list, and of each later horizon.
 pub fn cares_stay_seen()
     ensures { CaresStaySeen }
 {}
@@ -16,7 +16,7 @@ pub fn cares_hand_over_what_is_seen()
     ensures { CaresHandOverWhatIsSeen }
 {}
 
-/// Where the reply to its call tells what is of the list and of the horizon, a care goes on to hold what is of them.
+/// If the reply to its call tells what is of the list and of the horizon, a care still holds what is of them.
 pub fn cares_go_on()
     ensures { CaresGoOn }
 {}

@@ -11,7 +11,7 @@ pub fn checks_begin_at_places()
     ensures { ChecksBeginAtPlaces }
 {}
 
-/// What a check holds is of each longer list.
+/// What a check holds is also of each longer list.
 pub fn checks_stay_seen()
     ensures { ChecksStaySeen }
 {}
@@ -21,7 +21,7 @@ pub fn checks_hand_over_what_is_seen()
     ensures { ChecksHandOverWhatIsSeen }
 {}
 
-/// Where the reply to its call tells what is of the list, a check goes on to hold what is of the list; and it answers whether the user is a member there.
+/// If the reply to its call tells what is of the list, a check still holds what is of the list; and it answers whether the user is a member there.
 pub fn checks_answer_what_is_seen()
     ensures { ChecksAnswerWhatIsSeen }
 {}
@@ -31,8 +31,8 @@ pub fn checks_at_rest_have_reason()
     ensures { ChecksAtRestHaveReason }
 {}
 
-/// A check is refused only where a reply has told it, where memory is refused, where the place that was asked for is not there, or where more usersets can
-/// be reached than it may walk.
+/// A check is refused only if a reply has told it, memory is refused, the place that was asked for is not there, or more usersets can be reached than it
+/// may walk.
 pub fn checks_refuse_for_a_reason()
     ensures { ChecksRefuseForAReason }
 {}

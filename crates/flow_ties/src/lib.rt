@@ -1,7 +1,7 @@
 //! What a flow holds of the list of writes that its caller's pass has seen: words and laws.
 //!
 //! Keeps: nothing at run time; each law is the contract of a function with an empty body.
-//! Callers rely on: where each reply tells what is of the list, what a flow answers is of the list, and it is refused only for a reason.
+//! Callers rely on: if each reply tells what is of the list, what a flow answers is of the list, and it is refused only for a reason.
 //!
 //! Start at `specs/Telling.antt`, what a reply tells of the list, and `specs/Reads.antt`.
 #![tactic(auto)]

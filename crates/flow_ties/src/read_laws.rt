@@ -11,7 +11,7 @@ pub fn reads_begin_at_places()
     ensures { ReadsBeginAtPlaces }
 {}
 
-/// What a read holds is of each longer list.
+/// What a read holds is also of each longer list.
 pub fn reads_stay_seen()
     ensures { ReadsStaySeen }
 {}
@@ -21,7 +21,7 @@ pub fn reads_hand_over_what_is_seen()
     ensures { ReadsHandOverWhatIsSeen }
 {}
 
-/// Where the reply to its call tells what is of the list, a read goes on to hold what is of the list; and what it answers is what its tuplesets select there.
+/// If the reply to its call tells what is of the list, a read still holds what is of the list; and what it answers is what its tuplesets select there.
 pub fn reads_answer_what_is_seen()
     ensures { ReadsAnswerWhatIsSeen }
 {}
@@ -31,12 +31,12 @@ pub fn reads_at_rest_have_reason()
     ensures { ReadsAtRestHaveReason }
 {}
 
-/// A read that begins at a place of the list is refused for want of memory alone.
+/// A read that begins at a place of the list is refused only for lack of memory.
 pub fn reads_begin_for_a_reason()
     ensures { ReadsBeginForAReason }
 {}
 
-/// A read is refused only where a reply has told it, where memory is refused, or where the place that was asked for is not there.
+/// A read is refused only if a reply has told it, memory is refused, or the place that was asked for is not there.
 pub fn reads_refuse_for_a_reason()
     ensures { ReadsRefuseForAReason }
 {}

@@ -6,13 +6,13 @@ pub fn watches_begin()
     ensures { WatchesBegin }
 {}
 
-/// What a watch holds is of each longer list.
+/// What a watch holds is also of each longer list.
 pub fn watches_stay_seen()
     ensures { WatchesStaySeen }
 {}
 
-/// Where the reply to its call tells what is of the list, a watch goes on to hold what is of the list; and what it lists is all that there is between its
-/// cursor and the place that it tells.
+/// If the reply to its call tells what is of the list, a watch still holds what is of the list; and what it lists is all that there is between its cursor
+/// and the place that it tells.
 pub fn watches_list_what_is_seen()
     ensures { WatchesListWhatIsSeen }
 {}
@@ -22,7 +22,7 @@ pub fn watches_at_rest_have_reason()
     ensures { WatchesAtRestHaveReason }
 {}
 
-/// A watch is refused only where a reply has told it, where memory is refused, or where its cursor is not there.
+/// A watch is refused only if a reply has told it, memory is refused, or its cursor is not there.
 pub fn watches_refuse_for_a_reason()
     ensures { WatchesRefuseForAReason }
 {}

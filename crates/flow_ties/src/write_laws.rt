@@ -13,7 +13,7 @@ pub fn writes_begin<L: Links>()
     ensures { WritesBegin L.links }
 {}
 
-/// What a write holds is of each longer list.
+/// What a write holds is also of each longer list.
 pub fn writes_stay_seen<L: Links>()
     ensures { WritesStaySeen L.links }
 {}
@@ -28,13 +28,13 @@ pub fn writes_hand_over_what_is_seen<L: Links>()
     ensures { WritesHandOverWhatIsSeen L.links }
 {}
 
-/// Where the reply to its call tells what is so, a write goes on to hold what is of the write that was asked for; and the place that it tells is above
-/// what had been seen, and has just that write, its id once in the list.
+/// If the reply to its call tells what is so, a write still holds what is of the write that was asked for; and the place that it tells is above what
+/// had been seen, and has just that write, its id once in the list.
 pub fn writes_tell_what_stands<L: Links>()
     ensures { WritesTellWhatStands L.links }
 {}
 
-/// A write that is not begun is refused by nothing.
+/// Nothing refuses a write that is not begun.
 pub fn writes_begin_untold()
     ensures { WritesBeginUntold }
 {}

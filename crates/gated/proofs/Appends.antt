@@ -17,7 +17,7 @@ length-body buf some = length-take-le (length buf - record_head) (drop 4 buf) (o
 pub body_fits : (buf : List ℕ) → record_head + 1 ≤ length buf → length buf ≤ max_body + record_head → Fits (body_of buf)
 body_fits buf some fits = let len = length-body buf some in (omega (arith, len), omega (arith, len))
 
--- a buffer with a length in front and a gate behind
+-- a buffer with a length in front and a gate at the end
 pub framed : (gate : ℕ) (buf size : List ℕ) → length size ≡ 4 → record_head + 1 ≤ length buf → set (size ++ drop 4 buf) (4 + (length buf - record_head)) gate ≡ size ++ body_of buf ++ gate ∷ []
 framed gate buf size four some =
     let n = length buf - record_head in

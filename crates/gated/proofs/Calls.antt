@@ -6,7 +6,7 @@ use Rattle.device.proofs.Moments.{leaves_nothing_else}
 use Rattle.gated.specs.Gated.{IsAllDurable, WasPut}
 use Rattle.device.proofs.History.{reach_push, reach_push_most, untouched_push}
 
--- A call leaves what has P, where what could be left before it has P, and what may be left now has it.
+-- A call leaves what has P, if what could be left before it has P, and what may be left now has it.
 module _ {D : Type 0} (moment : D → ℕ) (left_since : D → ℕ → List ℕ → Type 0) (state : D → State) where
   pub one_call : (old new : D) (P : List ℕ → Type 0) → ((c : List ℕ) → left_since old (moment old) c → left (state old) c)
       → Elapses (moment old) (moment new) (left_since old) (left_since new) (left (state new))
@@ -17,7 +17,7 @@ module _ {D : Type 0} (moment : D → ℕ) (left_since : D → ℕ → List ℕ 
     before = λ t c le since. ⊎_elim (λ past. inl past) (λ l. inr (is c l)) (time.nothing_else t c le since);
   }
 
--- where nothing was written, the same is left
+-- if nothing was written, the same is left
 pub still : (s m : State) → m.durable ≡ s.durable → m.written ≡ s.written → (c : List ℕ) → left m c → left s c
 still s m durable written c leaves =
     subst (λ (d : List ℕ). Leaves d s.written c) durable (subst (λ (w : List (ℕ × ℕ)). Leaves m.durable w c) written leaves)
@@ -38,7 +38,7 @@ pub only_range : (s : State) (at n : ℕ) → s.written ≡ [] → (c : List ℕ
 only_range s at n none c leaves = subst (λ (w : List (ℕ × ℕ)). Leaves s.durable (w ++ (at, n) ∷ []) c) none leaves
 
 module _ (s : State) (at : ℕ) where
-  -- with one range more
+  -- with one more range
   abbrev more : ℕ → List ℕ → Type 0
   more n c = Leaves s.durable (s.written ++ (at, n) ∷ []) c
 
@@ -55,7 +55,7 @@ module _ (s : State) (at : ℕ) where
       (λ is. subst (λ (w : List (ℕ × ℕ)). Leaves s.durable w c) is l)
       tore.written
 
-  -- a write, done or failed, makes nothing longer than where it ends
+  -- a write, done or failed, makes nothing longer than to where it ends
   pub no_longer : (n most : ℕ) (m : State) → Tore s at n m → reach s.written (length s.durable) ≤ most → at + n ≤ most → (c : List ℕ) → left m c → length c ≤ most
   no_longer n most m tore before ends c leaves =
       ⊎_elim
@@ -75,7 +75,7 @@ pub written_or_not : {T E : Type 0} (s : State) (at : ℕ) (bytes : List ℕ) (m
 written_or_not s at bytes m (Ok x) ok err = tore_of s at bytes m ok
 written_or_not s at bytes m (Err e) ok err = err
 
--- all is durable behind a sync
+-- all is durable after a sync
 pub put_durable : (s : State) (at : ℕ) (bytes : List ℕ) (new : State) → WasPut s at bytes new → IsAllDurable new
 put_durable s at bytes new put = record { durable = put.durable; written = put.written }
 

@@ -23,7 +23,7 @@ back_same d at n c leaves len =
     ext_get_or 0 (drop (at + n) c) (drop (at + n) d) (omega (arith, len_c, len_d, len)) (λ i lt.
     get_or-drop (at + n) c i 0 ∙ leaves.same (at + n + i) (omega (arith, len_c, len)) (inr (omega arith), tt) ∙ sym (get_or-drop (at + n) d i 0))
 
--- what lies behind a place leaves all up to it
+-- what lies after a place leaves all up to it
 pub untouched_front : (end : ℕ) (w : List (ℕ × ℕ)) → AreBehind end w → (i : ℕ) → i ≤ end → Untouched w i
 untouched_front end [] behind i le = tt
 untouched_front end (range ∷ w) behind i le = (inl (omega (arith, behind.0, le)), untouched_front end w behind.1 i le)
@@ -94,7 +94,7 @@ module _ (bodies : List (List ℕ)) (gate : ℕ) (rest : List ℕ) (fit : AllFit
       ∙ ap (λ (l : List ℕ). (records ++ gate ∷ []) ++ frame ++ l) tail
       ∙ simp append_assoc (sym (split (gate ∷ frame ++ drop (length frame) rest)))
 
-  -- a write of the gate leaves the list, or whatever longer one stands behind it
+  -- a write of the gate leaves the list, or whatever longer one stands after it
   pub at_any_gate : (more : List ℕ) (longer : List (List ℕ)) → gated (spelled bodies (165 ∷ more)) ≡ Some longer → (c : List ℕ) → Leaves (spelled bodies (gate ∷ more)) ((end, 1) ∷ []) c
       → (gated c ≡ Some bodies) ⊎ (gated c ≡ Some longer)
   at_any_gate more longer longer_is c leaves =
@@ -119,7 +119,7 @@ module _ (bodies : List (List ℕ)) (gate : ℕ) (rest : List ℕ) (fit : AllFit
       ∙ append_assoc records (165 ∷ []) more
       ∙ sym (split (165 ∷ more))
 
-  -- bodies that stand ahead, behind a gate that is open: they are the end of the list
+  -- bodies that stand ahead, behind an open gate: they are the end of the list
   pub ahead_is : (b : List ℕ) (ahead : List (List ℕ)) (after : List ℕ) → spelled bodies (165 ∷ drop 1 (spelled (b ∷ ahead) (0 ∷ after))) ≡ spelled (bodies ++ b ∷ ahead) (0 ∷ after)
   ahead_is b ahead after = sym (spelled-more bodies (b ∷ ahead) (0 ∷ after))
 

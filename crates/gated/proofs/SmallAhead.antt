@@ -28,7 +28,7 @@ one_ahead = record {
   written = tt;
 }
 
--- the same, where the gate alone was synced
+-- the same, with only the gate synced
 abbrev gate_synced : State
 gate_synced = record { seen = 0 ∷ 0 ∷ 0 ∷ 0 ∷ 1 ∷ 7 ∷ 165 ∷ []; durable = 0 ∷ []; written = (1, 6) ∷ []; stopped = false; failures = 0 }
 
@@ -60,7 +60,7 @@ no_bodies : (bodies : List (List ℕ)) → 0 ≡ length (spelled bodies []) → 
 no_bodies [] is = refl
 no_bodies (b ∷ bs) is = absurd (omega (arith, is))
 
--- the gate and the byte behind the body of a device with one body ahead of an empty list
+-- the gate and the byte after the body of a device with one body ahead of an empty list
 module _ (s : State) (is : IsAhead s 0 6 (seven ∷ [])) where
   seen_is : s.seen ≡ is.gate ∷ 0 ∷ 0 ∷ 0 ∷ 1 ∷ 7 ∷ 165 ∷ is.rest
   seen_is = is.seen ∙ ap (λ (l : List (List ℕ)). spelled l (is.gate ∷ 0 ∷ 0 ∷ 0 ∷ 1 ∷ 7 ∷ 165 ∷ is.rest)) (no_bodies is.bodies is.end_is)
@@ -69,16 +69,16 @@ module _ (s : State) (is : IsAhead s 0 6 (seven ∷ [])) where
 gate_open : IsAhead (holding (165 ∷ 0 ∷ 0 ∷ 0 ∷ 1 ∷ 7 ∷ 165 ∷ 9 ∷ [])) 0 6 (seven ∷ []) → ⊥
 gate_open is = is.closed (sym (ap (λ (l : List ℕ). get_or l 0 0) (seen_is _ is)))
 
--- nor where the gate behind the last body is closed already
+-- nor if the gate after the last body is already closed
 last_closed : IsAhead (holding (0 ∷ 0 ∷ 0 ∷ 0 ∷ 1 ∷ 7 ∷ 0 ∷ 9 ∷ [])) 0 6 (seven ∷ []) → ⊥
 last_closed is = let byte = ap (λ (l : List ℕ). get_or l 6 0) (seen_is _ is) in omega (arith, byte)
 
--- nor where the list's gate is closed since the last sync alone
+-- nor if the list's gate was closed only since the last sync
 gate_not_durable : IsAhead (record gate_synced { durable = 165 ∷ 0 ∷ 0 ∷ 0 ∷ 1 ∷ 7 ∷ 0 ∷ [] }) 0 6 (seven ∷ []) → ⊥
 gate_not_durable is =
     is.closed (sym (ap (λ (l : List ℕ). get_or l 0 0) (is.durable ∙ ap (λ (l : List (List ℕ)). spelled l (is.gate ∷ is.kept)) (no_bodies is.bodies is.end_is))))
 
--- nor where a stop may open it
+-- nor if a stop may open it
 gate_written : IsAhead (record gate_synced { written = (0, 7) ∷ [] }) 0 6 (seven ∷ []) → ⊥
 gate_written is = omega (arith, is.written.0)
 

@@ -28,7 +28,7 @@ one_or_more n some = ⊎_elim (λ is. inl is) (λ ne. inr (omega (arith, ne))) (
 unfair : (rest : List ℕ) → IsFair rest → get_or rest 0 0 ≡ 165 → length rest ≡ 1 → ⊥
 unfair rest fair is one = let both : ((length rest == 1) && (get_or rest 0 0 == 165)) ≡ true = and_from _ _ (eq-eqb (length rest) 1 one) (eq-eqb (get_or rest 0 0) 165 is) in cc (fair.fair)
 
--- an open gate that a split meets has something behind it
+-- an open gate that a split meets has something after it
 pub gate_opens : (rest : List ℕ) → IsFair rest → get_or rest 0 0 ≡ 165 → gate_is_open rest ≡ true
 gate_opens rest fair is =
     let long : 1 < length rest = ⊎_elim (λ (e : length rest ≡ 1). absurd (unfair rest fair is e)) (λ (l : 1 < length rest). l) (one_or_more (length rest) fair.some) in
@@ -101,7 +101,7 @@ within_damaged (b ∷ bs) rest (suc most) fit opened broken long lt =
     let fair = fair_long (spelled bs rest) (omega arith) in
     within_step b (spelled bs rest) fit.0 fair.some fair.fair most ∙ ap (with_front b) (within_damaged bs rest most fit.1 opened broken long (omega arith))
 
--- an open gate with no whole record behind it
+-- an open gate with no whole record after it
 pub reads_damaged : (content : List ℕ) (bodies : List (List ℕ)) (end : ℕ) → Reads content bodies end → get_or content end 0 ≡ 165 → is_whole (drop end content) ≡ false → gated content ≡ None
 unfolding gated
 reads_damaged content bodies end r is broken =

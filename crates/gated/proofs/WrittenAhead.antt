@@ -62,7 +62,7 @@ length_behind_first (b ∷ bs) =
     let all = spelled-split bs (open_gate ∷ []) in
     omega (arith, ap length all, length-append b (spelled bs (open_gate ∷ [])), length-append b (spelled bs []), length-append (spelled bs []) (open_gate ∷ []))
 
--- what stands there with a body more
+-- what stands there with one more body
 spelled_body_more : (bodies : List (List ℕ)) (gate : ℕ) (ahead : List (List ℕ)) (body frame after : List ℕ) → frame ≡ to_be_bytes w32 (length body) ++ body ++ open_gate ∷ []
     → (spelled bodies [] ++ gate ∷ drop 1 (spelled ahead (open_gate ∷ []))) ++ (frame ++ after) ≡ spelled bodies (gate ∷ drop 1 (spelled (ahead ++ body ∷ []) (open_gate ∷ after)))
 spelled_body_more bodies gate ahead body frame after frame_is =
@@ -96,7 +96,7 @@ module _ (s : State) (end at : ℕ) (ahead : List (List ℕ)) (is : IsAhead s en
   pub list_stays : (bodies : List (List ℕ)) → HasList s bodies → (from n : ℕ) → end < from → (c : List ℕ) → Leaves s.durable (s.written ++ (from, n) ∷ []) c → gated c ≡ Some bodies
   list_stays bodies has from n lt c leaves = one_behind s end (ready_of s end at ahead is) bodies has from n lt c leaves
 
-  -- and puts a body more there
+  -- and puts one more body there
   pub ahead_more : (body frame : List ℕ) (new : State) → Fits body → frame ≡ to_be_bytes w32 (length body) ++ body ++ open_gate ∷ [] → Wrote s (at + 1) frame new → (n : ℕ) → n ≡ length frame → IsAhead new end (at + n) (ahead ++ body ∷ [])
   unfolding front
   ahead_more body frame new fits frame_is wrote n len = record {
@@ -198,7 +198,7 @@ module _ (s : State) (end at : ℕ) (b : List ℕ) (bs : List (List ℕ)) (is : 
         let is_new : c ≡ new.durable = leaves_nothing_else new.durable c (subst (λ (w : List (ℕ × ℕ)). Leaves new.durable w c) opened.written leaves) in
         ap gated (is_new ∙ opened.durable ∙ new_is) ∙ longer_is ∙ ap (λ (l : List (List ℕ)). Some (l ++ b ∷ bs)) (same bodies has)
 
--- where the last of them ends behind the closed gate, there is one
+-- if the last of them ends behind the closed gate, there is one
 pub some_ahead : (G : List (List ℕ) → Type 0) (s : State) (end at : ℕ) (ahead : List (List ℕ)) → end < at → IsAhead s end at ahead → ((b : List ℕ) (bs : List (List ℕ)) → IsAhead s end at (b ∷ bs) → G (b ∷ bs)) → G ahead
 some_ahead G s end at [] lt is f = absurd (omega (arith, is.at_is, lt))
 some_ahead G s end at (b ∷ bs) lt is f = f b bs is

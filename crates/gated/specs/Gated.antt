@@ -7,11 +7,11 @@ use Rattle.device.specs.Device.{State, left, patched}
 abbrev pub open_gate : ℕ
 open_gate = 165
 
--- the byte of a gate that is made closed
+-- the byte that closes a gate
 abbrev pub closed_gate : ℕ
 closed_gate = 0
 
--- the bytes of a record in front of its body: the gate and the length
+-- the number of bytes of a record before its body: the gate and the length
 abbrev pub record_head : ℕ
 record_head = 5
 
@@ -41,7 +41,7 @@ abbrev pub with_front : List ℕ → Option (List (List ℕ)) → Option (List (
 with_front body None = None
 with_front body (Some bodies) = Some (body ∷ bodies)
 
--- with at most so many records
+-- with at most this many records
 abbrev pub gated_within : ℕ → List ℕ → Option (List (List ℕ))
 gated_within zero content = Some []
 gated_within (suc most) content =
@@ -49,7 +49,7 @@ gated_within (suc most) content =
     then if is_whole content then with_front (take (body_length content) (drop record_head content)) (gated_within most (behind content)) else None
     else Some []
 
--- The bodies behind open gates, up to the first gate that is closed. None where an open gate has no whole record behind it.
+-- The bodies behind open gates, up to the first gate that is closed. None if an open gate has no whole record after it.
 unfoldable pub gated : List ℕ → Option (List (List ℕ))
 gated content = gated_within (length content) content
 
@@ -57,11 +57,11 @@ gated content = gated_within (length content) content
 abbrev pub HasList : State → List (List ℕ) → Type 0
 HasList s bodies = (c : List ℕ) → left s c → gated c ≡ Some bodies
 
--- a log as its callers see it: its device, the place of the gate that ends the list, and where the bodies end that are ahead of it
+-- a log as its callers see it: its device, the offset of the gate that ends the list, and where the bodies end that are ahead of it
 pub record LogView (D : Type 0) : Type 0 where
   pub device : D
   pub end : ℕ
-  -- the same place, where none is ahead
+  -- the same offset, if none is ahead
   pub at : ℕ
 
 -- the list, or the longer one
@@ -80,12 +80,12 @@ abbrev pub AllFit : List (List ℕ) → Type 0
 AllFit [] = Unit {0}
 AllFit (b ∷ bs) = Fits b × AllFit bs
 
--- what reads is durable, and nothing was written since
+-- what is read is durable, and nothing was written since
 pub record IsAllDurable (s : State) : Type 0 where
   pub durable : s.durable ≡ s.seen
   pub written : s.written ≡ []
 
--- each of the ranges begins behind this place
+-- each of the ranges begins after this offset
 abbrev pub AreBehind : ℕ → List (ℕ × ℕ) → Type 0
 AreBehind end [] = Unit {0}
 AreBehind end (range ∷ ranges) = (end < range.0) × AreBehind end ranges
@@ -113,19 +113,20 @@ pub record IsSpelled (content : List ℕ) (bodies : List (List ℕ)) (end : ℕ)
   pub content_is : content ≡ spelled bodies (gate ∷ rest)
   pub end_is : end ≡ length (spelled bodies [])
 
--- the body that a buffer of four bytes, the body and one byte has
+-- the body in a buffer of four bytes, the body and one byte
 abbrev pub body_of : List ℕ → List ℕ
 body_of buf = take (length buf - record_head) (drop 4 buf)
 
--- an opening answered this list: it is the one that the device had as it read, and from now on every stop leaves it; it reads as it did, or was made anew
+-- an opening returned this list: it is the one that the device had as it read, and from now on every stop leaves it; the device reads as it did, or was
+-- initialized
 pub record IsFoundList (old : State) (bodies : List (List ℕ)) (new : State) : Type 0 where
   pub was : gated old.seen ≡ Some bodies
   pub has : HasList new bodies
   pub up : new.stopped ≡ false
   pub reads : (new.seen ≡ old.seen) ⊎ (length new.seen ≤ 1)
 
--- These bodies read ahead of the list: behind its closed gate at `end`, where nothing of them counts. Behind the last of them, at `at`, stands an open
--- gate; where there are none, `at` is the place of the closed one. The list and its gate are durable. What is behind the gate need not be: a stop may leave
+-- These bodies are read ahead of the list: behind its closed gate at `end`, where none of them counts. After the last of them, at `at`, stands an open
+-- gate; if there are none, `at` is the offset of the closed one. The list and its gate are durable. What is behind the gate need not be: a stop may leave
 -- any bytes there.
 pub record IsAhead (s : State) (end at : ℕ) (ahead : List (List ℕ)) : Type 0 where
   pub bodies : List (List ℕ)
@@ -147,7 +148,7 @@ pub record HasAhead (s : State) (end at : ℕ) : Type 0 where
   pub ahead : List (List ℕ)
   pub is : IsAhead s end at ahead
 
--- the list, or the one with these bodies behind it
+-- the list, or the one with these bodies after it
 abbrev pub IsOldOrLonger : List (List ℕ) → List (List ℕ) → List ℕ → Type 0
 IsOldOrLonger bodies ahead content = (gated content ≡ Some bodies) ⊎ (gated content ≡ Some (bodies ++ ahead))
 
@@ -155,7 +156,7 @@ IsOldOrLonger bodies ahead content = (gated content ≡ Some bodies) ⊎ (gated 
 abbrev pub IsOldOrNone : List (List ℕ) → List ℕ → Type 0
 IsOldOrNone bodies content = (gated content ≡ Some bodies) ⊎ (gated content ≡ Some [])
 
--- these bytes were written at this place, and are durable with all the others
+-- these bytes were written at this offset, and are durable with all the others
 pub record WasPut (old : State) (at : ℕ) (bytes : List ℕ) (new : State) : Type 0 where
   pub seen : new.seen ≡ patched old.seen at bytes
   pub durable : new.durable ≡ new.seen

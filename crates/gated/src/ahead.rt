@@ -1,4 +1,4 @@
-// Bodies that are written ahead of a list: behind its closed gate, where nothing of them counts, and none has to be durable, until it is opened.
+// Bodies written ahead of a list: behind its closed gate, so that none of them counts or has to be durable until it is opened.
 ghost use Rattle.std.specs.Prelude.{◌≡◌, ◌≤◌, ◌<◌, ◌+◌, ◌↔◌, Some, [], ◌∷◌, ◌++◌, true, false, length, OnOk, OnErr, IsErr, List, ℕ};
 ghost use Rattle.gated.specs.Gated.{body_of, gated, max_body, max_device, record_head, HasAhead, HasList, IsAhead, IsAllDurable, IsOldOrLonger, IsOldOrNone, IsReady, WasPut};
 ghost use Rattle.device.specs.Device.{Failed, Keeps, Leaves, LeavesOnly, left};
@@ -24,7 +24,7 @@ fn put<D: Device>(device: &mut D, at: usize, bytes: &[u8]) -> Result<(), Stopped
     device.sync()
 }
 
-/// Writes the body that the buffer has behind those that are ahead, which end at `at`. It is not synced.
+/// Writes the body in the buffer after those that are ahead, which end at `at`. It is not synced.
 pub(crate) fn put_ahead<D: Device>(
     device: &mut D,
     end: usize,
@@ -47,9 +47,9 @@ pub(crate) fn put_ahead<D: Device>(
     ensures err { OnErr result (Failed (D.state device.old) (D.state device.new)) }
     ensures stopped { (D.state device.old).stopped ≡ true → IsErr result × (D.honest device.old → Keeps (D.state device.old) (D.state device.new)) }
 {
-    // The gate behind it is open already: only the last one is closed, once no body comes any more.
+    // The gate after it is open already: only the last one is closed, once no more bodies come.
     frame(buf, OPEN);
-    // Behind the list's closed gate nothing counts, whatever a stop leaves of it. So no sync is needed before that gate is opened.
+    // Nothing behind the list's closed gate counts, whatever a stop leaves of it. So no sync is needed until that gate is opened.
     device.write_at(at + 1, buf)
 }
 
@@ -70,14 +70,14 @@ pub(crate) fn open_ahead<D: Device>(device: &mut D, end: usize, at: usize) -> Re
     ensures err { OnErr result (Failed (D.state device.old) (D.state device.new)) }
     ensures stopped { (D.state device.old).stopped ≡ true → IsErr result × (D.honest device.old → Keeps (D.state device.old) (D.state device.new)) }
 {
-    // The gate behind the last of them ends the list from then on. Behind the closed gate of today it counts for nothing yet.
-    // Its sync makes all that is ahead durable too, which has to be so before the gate is opened that says that it is there.
+    // The gate after the last of them will end the list. Behind today's closed gate it counts for nothing yet. Its sync also
+    // makes all that is ahead durable, as it has to be before the gate that says so is opened.
     put(device, at, &[CLOSED])?;
     // One byte: a stop leaves it open, and with it all that is ahead, or closed and the old list.
     put(device, end, &[OPEN])
 }
 
-/// Closes the first gate, which is open: the list is the empty one.
+/// Closes the first gate, which is open: the list is then empty.
 pub(crate) fn close_first<D: Device>(device: &mut D, end: usize) -> Result<(), Stopped>
     requires some { 0 < end }
     requires ready { D.honest device.old → (D.state device.old).stopped ≡ false → IsReady (D.state device.old) end }
@@ -93,6 +93,6 @@ pub(crate) fn close_first<D: Device>(device: &mut D, end: usize) -> Result<(), S
     ensures err { OnErr result (Failed (D.state device.old) (D.state device.new)) }
     ensures stopped { (D.state device.old).stopped ≡ true → IsErr result × (D.honest device.old → Keeps (D.state device.old) (D.state device.new)) }
 {
-    // A stop leaves this byte open, and the old list, or any other, and the empty one.
+    // A stop leaves this byte open and the old list, or any other byte and the empty list.
     put(device, 0, &[CLOSED])
 }

@@ -7,7 +7,7 @@ ghost use Rattle.device.specs.Device.{LeavesOnly, Failed, Keeps};
 use crate::format::{CLOSED, HEAD, OPEN, SIZE};
 use device::{Device, Stopped};
 
-/// Puts the length before the body, and this gate behind it.
+/// Puts the length before the body, and this gate after it.
 pub(crate) fn frame(buf: &mut [u8], gate: u8)
     requires some { record_head + 1 ≤ length buf.old }
     requires fits { length buf.old ≤ max_body + record_head }
@@ -19,7 +19,7 @@ pub(crate) fn frame(buf: &mut [u8], gate: u8)
     buf[SIZE + n] = gate;
 }
 
-/// Appends the body that the buffer has, behind the closed gate at `end`.
+/// Appends the body in the buffer, behind the closed gate at `end`.
 pub(crate) fn append_at<D: Device>(
     device: &mut D,
     end: usize,

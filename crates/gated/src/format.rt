@@ -1,15 +1,15 @@
 // The numbers of the format of a gated log.
 
-/// A gate with this byte is open: a whole record lies behind it. Any other byte is closed, and ends the list.
+/// A gate with this byte is open: a whole record follows it. Any other byte is closed, and ends the list.
 pub(crate) const OPEN: u8 = 0xa5;
 
-/// The byte of a gate that is made closed.
+/// The byte that closes a gate.
 pub(crate) const CLOSED: u8 = 0;
 
-/// The bytes of a length, the high ones first.
+/// The number of bytes of a length, the high ones first.
 pub(crate) const SIZE: usize = 4;
 
-/// The bytes of a record in front of its body: the gate and the length.
+/// The number of bytes of a record before its body: the gate and the length.
 pub(crate) const HEAD: usize = 1 + SIZE;
 
 /// The most bytes of one body; each has at least one.

@@ -6,7 +6,7 @@ use away::Away;
 use device::Device;
 
 impl<D: Device> GatedLog<D> {
-    /// The log over what stands in the device's place, each call of which fails, and the log with the device. Both know where the list ends.
+    /// The log over a stand-in for the device, each call of which fails, and the log with the device. Both know where the list ends.
     pub fn lend(self) -> (GatedLog<Away<D>>, GatedLog<D>)
         ensures log { result.1 ≡ self }
         ensures device { result.0.device.was.value ≡ self.device }

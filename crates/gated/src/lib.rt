@@ -4,9 +4,9 @@
 //! Never: reads a length behind a closed gate, looks into a body, or keeps bodies in memory.
 //! Callers rely on: the list gains the body on `Ok`; after `Full` nothing has changed, after `Down` open again.
 //!
-//! Many bodies may be written ahead of a list, behind its closed gate, and become its end by one byte (`write_ahead`, `publish`); `clear`
-//! empties a list by one byte. A checkpoint of a journal is written by these three. What is ahead needs no sync: `publish` makes all of it durable
-//! by one, before the gate in front of it is opened.
+//! Many bodies may be written ahead of a list, behind its closed gate, and become its end by one byte (`write_ahead`, `publish`); `clear` empties
+//! a list by one byte. A journal's checkpoint is written with these three. What is ahead needs no sync: `publish` makes all of it durable with
+//! one, before it opens the gate in front.
 //!
 //! `lend` gives the log with its device away, and leaves one that knows where the list ends.
 //!

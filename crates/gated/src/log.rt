@@ -12,14 +12,14 @@ use refusal::Refusal;
 use std::alloc::Global;
 use std::marker::Model;
 
-/// A log over one device, which contracts see as that device, the place of the gate that ends the list, and where the bodies end
+/// A log over one device. Contracts see it as that device, the offset of the gate that ends the list, and where the bodies end
 /// that are ahead of it.
 #[derive(Drop)]
 pub struct GatedLog<D: Device> {
     pub(crate) device: D,
-    // where the closed gate stands that ends the list
+    // the offset of the closed gate that ends the list
     pub(crate) end: usize,
-    // where the open gate stands behind the bodies that are ahead; where none is, the same place
+    // the offset of the open gate after the bodies that are ahead; without any, the same as `end`
     pub(crate) at: usize,
 }
 
@@ -35,10 +35,11 @@ impl<D: Device> Model for GatedLog<D> {
 }
 
 impl<D: Device> GatedLog<D> {
-    /// Opens the log of a device, with the bodies found, oldest first. A device of at most one byte is made anew, as the empty list.
+    /// Opens the log of a device, with the bodies found, oldest first. A device of at most one byte is initialized as the empty
+    /// list.
     ///
-    /// Each refusal gives the device back: `Down` where a call of it failed, `NoMemory`, and `Damaged` where an open gate has no
-    /// whole record behind it.
+    /// Each refusal returns the device: `Down` if a call of it failed, `NoMemory`, and `Damaged` if an open gate has no whole record
+    /// behind it.
     pub fn open(alloc: Global, mut device: D) -> Result<(GatedLog<D>, Vec<Vec<u8>>), (Refusal, D)>
         ensures honest { MatchResult result (λ r. D.honest device ↔ D.honest r.0.device) (λ e. D.honest device ↔ D.honest e.1) }
 
@@ -54,7 +55,7 @@ impl<D: Device> GatedLog<D> {
             (λ e. (e.0 ≡ Refusal.Down) ⊎ ((D.state e.1).failures ≡ (D.state device).failures)) }
         ensures end { D.honest device → IfOk result (λ r. r.0.end < length (D.state r.0.device).seen) }
 
-        // Nothing is ahead of it, and all that reads is durable.
+        // Nothing is ahead of it, and all that is read is durable.
         ensures at { IfOk result (λ r. r.0.at ≡ r.0.end) }
         ensures ahead { D.honest device → IfOk result (λ r. IsAhead (D.state r.0.device) r.0.end r.0.at []) }
         ensures durable { D.honest device → IfOk result (λ r. IsAllDurable (D.state r.0.device)) }
@@ -64,7 +65,7 @@ impl<D: Device> GatedLog<D> {
             (λ r. LeavesOnly D.moment D.left_since device r.0.device (λ c. left (D.state device) c ⊎ (gated c ≡ gated (D.state device).seen)))
             (λ e. LeavesOnly D.moment D.left_since device e.1 (λ c. left (D.state device) c ⊎ (gated c ≡ gated (D.state device).seen))) }
 
-        // Of a device that has failed it leaves nothing else.
+        // Once the device has failed, a stop leaves only what it could before.
         ensures still { (D.state device).stopped ≡ true → D.honest device → IfErr result (λ e. LeavesOnly D.moment D.left_since device e.1 (left (D.state device))) }
     {
         match find_list(alloc, &mut device) {
@@ -80,11 +81,11 @@ impl<D: Device> GatedLog<D> {
         }
     }
 
-    /// Appends the body that stands in the buffer between four bytes and one, which it fills itself; exactly four device calls.
-    /// It takes the place of what was ahead.
+    /// Appends the body that stands in the buffer after four bytes and before one, which this call fills; exactly four device
+    /// calls. It replaces what was ahead.
     ///
-    /// `Full` where the list would end past 2^40 bytes: nothing has changed. `Down`: the list is the old one or the new one, and
-    /// the log has to be opened again, after the device was revived.
+    /// `Full` if the list would end past 2^40 bytes: nothing has changed. `Down`: the list is the old one or the new one; revive
+    /// the device and open the log again.
     pub fn append(&mut self, buf: &mut [u8]) -> Result<(), Refusal>
         requires some { record_head + 1 ≤ length buf.old }
         requires fits { length buf.old ≤ max_body + record_head }
@@ -93,7 +94,7 @@ impl<D: Device> GatedLog<D> {
         // At every moment of the call a stop leaves the old list or the new one.
         ensures any_moment { (bodies : List (List ℕ)) → D.honest self.old.device → HasList (D.state self.old.device) bodies → LeavesOnly D.moment D.left_since self.old.device self.new.device (IsOldOrNew bodies (body_of buf.old)) }
 
-        // From then on each stop leaves the new one, and all that reads is durable.
+        // From then on each stop leaves the new one, and all that is read is durable.
         ensures ok { (bodies : List (List ℕ)) → D.honest self.old.device → HasList (D.state self.old.device) bodies → OnOk result (HasList (D.state self.new.device) (bodies ++ body_of buf.old ∷ [])) }
         ensures up { D.honest self.old.device → OnOk result ((D.state self.new.device).stopped ≡ false) }
         ensures failed { IsErrOf result Refusal.Down → Failed (D.state self.old.device) (D.state self.new.device) }
@@ -122,11 +123,11 @@ impl<D: Device> GatedLog<D> {
         }
     }
 
-    /// Writes the body that stands in the buffer, as `append` takes it, ahead of the list: behind those that are ahead already. Until
-    /// `publish` none of them counts, and none has to be durable. One device call, and no sync.
+    /// Writes the body in the buffer, which is laid out as for `append`, ahead of the list: after those that are ahead already. Until
+    /// `publish` none of them counts or has to be durable. One device call, and no sync.
     ///
-    /// `Full` where it would end past 2^40 bytes: nothing has changed. `Down`: the list is as it was, and the log has to be opened
-    /// again, after the device was revived; nothing is ahead then.
+    /// `Full` if it would end past 2^40 bytes: nothing has changed. `Down`: the list is as it was, and nothing is ahead; revive the
+    /// device and open the log again.
     pub fn write_ahead(&mut self, buf: &mut [u8]) -> Result<(), Refusal>
         requires some { record_head + 1 ≤ length buf.old }
         requires fits { length buf.old ≤ max_body + record_head }
@@ -136,7 +137,7 @@ impl<D: Device> GatedLog<D> {
         ensures any_moment { (bodies : List (List ℕ)) → D.honest self.old.device → HasList (D.state self.old.device) bodies → LeavesOnly D.moment D.left_since self.old.device self.new.device (λ c. gated c ≡ Some bodies) }
         ensures list { (bodies : List (List ℕ)) → D.honest self.old.device → HasList (D.state self.old.device) bodies → HasList (D.state self.new.device) bodies }
 
-        // One body more is ahead of it.
+        // One more body is ahead of it.
         ensures ok { (ahead : List (List ℕ)) → D.honest self.old.device → IsAhead (D.state self.old.device) self.old.end self.old.at ahead
             → OnOk result (IsAhead (D.state self.new.device) self.new.end self.new.at (ahead ++ body_of buf.old ∷ [])) }
         ensures up { D.honest self.old.device → OnOk result ((D.state self.new.device).stopped ≡ false) }
@@ -165,7 +166,7 @@ impl<D: Device> GatedLog<D> {
     /// Makes all bodies that are ahead the end of the list, by one byte; exactly four device calls. However many bodies there are, its
     /// first sync makes all of them durable, before that byte is written.
     ///
-    /// `Down`: the list is the old one or has all of them, and the log has to be opened again, after the device was revived.
+    /// `Down`: the list is the old one or has all of them; revive the device and open the log again.
     pub fn publish(&mut self) -> Result<(), Refusal>
         requires { self.old.end < self.old.at }
         ensures honest { D.honest self.old.device ↔ D.honest self.new.device }
@@ -174,7 +175,7 @@ impl<D: Device> GatedLog<D> {
         ensures any_moment { (ahead bodies : List (List ℕ)) → D.honest self.old.device → IsAhead (D.state self.old.device) self.old.end self.old.at ahead → HasList (D.state self.old.device) bodies
             → LeavesOnly D.moment D.left_since self.old.device self.new.device (IsOldOrLonger bodies ahead) }
 
-        // From then on each stop leaves the longer one, and nothing is ahead of it. All that reads is durable.
+        // From then on each stop leaves the longer one, and nothing is ahead of it. All that is read is durable.
         ensures ok { (ahead bodies : List (List ℕ)) → D.honest self.old.device → IsAhead (D.state self.old.device) self.old.end self.old.at ahead → HasList (D.state self.old.device) bodies
             → OnOk result (HasList (D.state self.new.device) (bodies ++ ahead)) }
         ensures ahead { D.honest self.old.device → OnOk result (IsAhead (D.state self.new.device) self.new.end self.new.at []) }
@@ -196,17 +197,17 @@ impl<D: Device> GatedLog<D> {
         }
     }
 
-    /// Makes the list the empty one, by one byte, and forgets what is ahead. Two device calls; none where the list is empty, since
-    /// a write over a gate that is closed might be left as one that is open. What was ahead of an empty list may then wait for a sync still.
+    /// Empties the list, by one byte, and forgets what is ahead. Two device calls; none if the list is empty, since overwriting a closed
+    /// gate might leave an open one. What was ahead of an empty list may then still wait for a sync.
     ///
-    /// `Down`: the list is the old one or the empty one, and the log has to be opened again, after the device was revived.
+    /// `Down`: the list is the old one or the empty one; revive the device and open the log again.
     pub fn clear(&mut self) -> Result<(), Refusal>
         ensures honest { D.honest self.old.device ↔ D.honest self.new.device }
 
         // At every moment of the call a stop leaves the old list, or the empty one.
         ensures any_moment { (bodies : List (List ℕ)) → D.honest self.old.device → HasList (D.state self.old.device) bodies → LeavesOnly D.moment D.left_since self.old.device self.new.device (IsOldOrNone bodies) }
 
-        // From then on each stop leaves the empty one, and nothing is ahead of it. Where there was a list, all that reads is durable.
+        // From then on each stop leaves the empty one, and nothing is ahead of it. If there was a list, all that is read is durable.
         ensures ok { D.honest self.old.device → (D.state self.old.device).stopped ≡ false → OnOk result (HasList (D.state self.new.device) []) }
         ensures ahead { D.honest self.old.device → (D.state self.old.device).stopped ≡ false → OnOk result (IsAhead (D.state self.new.device) 0 0 []) }
         ensures durable { D.honest self.old.device → 0 < self.old.end → OnOk result (IsAllDurable (D.state self.new.device)) }
@@ -245,7 +246,7 @@ impl<D: Device> GatedLog<D> {
         self.device.fail(n, tear);
     }
 
-    /// The place of the closed gate that ends the list.
+    /// The offset of the closed gate that ends the list.
     pub fn end(&self) -> usize
         ensures { result ≡ self.now.end }
     {

@@ -10,7 +10,7 @@ use device::{Device, Stopped};
 use refusal::Refusal;
 use std::alloc::Global;
 
-/// Makes a device of at most one byte anew, as the empty list.
+/// Initializes a device of at most one byte as the empty list.
 fn make<D: Device>(device: &mut D) -> Result<(), Stopped>
     requires { D.honest device.old → ((D.state device.old).stopped ≡ false) × (length (D.state device.old).seen ≤ 1) }
     ensures honest { D.honest device.old ↔ D.honest device.new }
@@ -22,13 +22,13 @@ fn make<D: Device>(device: &mut D) -> Result<(), Stopped>
     ensures none { OnOk result ((D.state device.new).failures ≡ (D.state device.old).failures) }
     ensures any_moment { D.honest device.old → LeavesOnly D.moment D.left_since device.old device.new (λ c. gated c ≡ gated (D.state device.old).seen) }
 {
-    // Whatever a stop leaves of this write, or of one before it, at most one byte has no body.
+    // Whatever a stop leaves of this write, or of one before it, a content of at most one byte has no body.
     device.write_at(0, &[CLOSED])?;
-    // Until it is durable, it may be lost, and an opening makes it once more.
+    // Until it is durable it may be lost; an opening then makes it again.
     device.sync()
 }
 
-/// Reads all of the bytes, of which there are so many.
+/// Reads all `n` bytes.
 fn read_whole<D: Device>(alloc: Global, device: &mut D, n: usize) -> Result<Vec<u8>, Refusal>
     requires { D.honest device.old → (D.state device.old).stopped ≡ false → n ≡ length (D.state device.old).seen }
     ensures honest { D.honest device.old ↔ D.honest device.new }
@@ -51,7 +51,7 @@ fn read_whole<D: Device>(alloc: Global, device: &mut D, n: usize) -> Result<Vec<
     }
 }
 
-/// Finds the bodies that a device has, and where the closed gate stands that ends them.
+/// Finds the bodies of a device, and the offset of the closed gate that ends them.
 pub(crate) fn find_list<D: Device>(
     alloc: Global,
     device: &mut D,
@@ -78,7 +78,7 @@ pub(crate) fn find_list<D: Device>(
         };
         return Ok((Vec::new(alloc), 0));
     }
-    // A gate may read open, and be closed after a stop: what reads has to be durable before a list is told.
+    // A gate may read as open, and be closed after a stop: what is read has to be durable before a list is returned.
     let Ok(()) = device.sync() else {
         return Err(Refusal::Down);
     };

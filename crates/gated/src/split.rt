@@ -1,4 +1,4 @@
-// The bodies that a content spells, up to the gate that is closed.
+// The bodies that a content spells, up to the closed gate.
 ghost use Rattle.std.specs.Prelude.{◌≡◌, ◌≤◌, ◌<◌, ◌⊎◌, ◌++◌, ◌∷◌, [], None, true, false, take, drop, length, map, IfOk, IfErr, OnOk, MatchOption};
 ghost use Rattle.gated.specs.Gated.{gated, is_whole, body_length, IsSpelled};
 
@@ -6,7 +6,7 @@ use crate::format::{HEAD, MAX_BODY, OPEN};
 use refusal::Refusal;
 use std::alloc::{AllocError, Global};
 
-/// The body behind the gate at the front, where its record is whole and the next gate is inside.
+/// The body after the gate at the front, if its record is whole and the next gate is inside.
 fn whole_body(content: &[u8]) -> Option<&[u8]>
     ensures { MatchOption result (is_whole content.now ≡ false) (λ body. (is_whole content.now ≡ true) × (body.now ≡ take (body_length content.now) (drop 5 content.now))) }
 {
@@ -18,7 +18,7 @@ fn whole_body(content: &[u8]) -> Option<&[u8]>
     if n < 1 || n > MAX_BODY || HEAD + n >= content.len() {
         return None;
     }
-    // A next gate that is open and has nothing behind it is no gate: its record was cut off.
+    // An open next gate with nothing after it is no gate: its record was cut off.
     if HEAD + n + 1 == content.len() && content[HEAD + n] == OPEN {
         return None;
     }
@@ -33,7 +33,7 @@ fn push_copy(alloc: Global, bodies: &mut Vec<Vec<u8>>, body: &[u8]) -> Result<()
     Ok(())
 }
 
-/// The bodies of a content, oldest first, and where the closed gate stands that ends them.
+/// The bodies of a content, oldest first, and the offset of the closed gate that ends them.
 pub(crate) fn split(alloc: Global, content: &[u8]) -> Result<(Vec<Vec<u8>>, usize), Refusal>
     requires { 2 ≤ length content.now }
     ensures ok { IfOk result (λ r. IsSpelled content.now (map (λ b. b.items) r.0.items) r.1) }

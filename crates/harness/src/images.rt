@@ -12,7 +12,7 @@ use std::alloc::{AllocError, Global};
 use std::io::{self, Read, Write};
 use tuples::Refusal;
 
-// What is told of a row; where it can't be told all, why not.
+// What is told of a row; if it can't all be told, why not.
 fn answer(alloc: Global, row: &str, out: &mut Vec<u8>) -> Result<(), AllocError> {
     let told = match Row::read(row) {
         Some(row) => row.open(alloc, out),

@@ -2,9 +2,9 @@
 //! disks that fail, and threads that share a store.
 //!
 //! Keeps: the words say which part is run, over standard input; a part that is long is a crate of its own (`flow_rows`, `threads_run`), and each says what it does.
-//! Never: promises anything but its status; and one program is linked and compiled, not one a part.
-//! Callers rely on: status 0 where the part was run to its end, 1 where it was not, and 2 where the words name no part. With the word `parts` alone the input
-//! has several parts, each behind a line `== ` and the words of its own, and the status is 0 where all of them were run to their end.
+//! Never: promises anything but its status; and one program is linked and compiled, not one per part.
+//! Callers rely on: status 0 if the part was run to its end, 1 if it was not, and 2 if the words name no part. With the word `parts` alone the input has several
+//! parts, each after a line `== ` and the words of its own, and the status is 0 if all of them were run to their end.
 //!
 //! Start at `part.rt`, what can be asked for.
 #![tactic(auto)]
@@ -22,13 +22,13 @@ use std::sync::Wait;
 use std::thread::Threads;
 use std::{env, io};
 
-// The status where a part was not run to its end.
+// The status if a part was not run to its end.
 const FAILED: u8 = 1;
 
-// The status where the words name no part.
+// The status if the words name no part.
 const USAGE: u8 = 2;
 
-// What each part of the input begins with, in the place of the words of the command line.
+// What each part of the input begins with, instead of the words of the command line.
 const HEADING: &str = "== ";
 
 fn main(rt: HostRuntime) -> ExitCode {
@@ -89,7 +89,7 @@ fn run_parts<R: Runtime + Threads + Wait + Sync>(
     Ok(0)
 }
 
-// Runs a part of the text, if there is one: its words, and behind a line feed its input.
+// Runs a part of the text, if there is one: its words, and after a line feed its input.
 fn run_headed<R: Runtime + Threads + Wait + Sync>(
     rt: &R,
     files: &HostRuntime,
@@ -106,7 +106,7 @@ fn run_headed<R: Runtime + Threads + Wait + Sync>(
 }
 
 fn tell_usage(rt: &HostRuntime) -> u8 {
-    // A text that can't be printed changes nothing of the status.
+    // A text that can't be printed does not change the status.
     let _ = eprintln!(rt;
         "usage: harness flows, images, session, files FOLDER STORE SHARDS, failing DISK CALL BYTE, threads SECONDS SEED, two-callers, two-writers, or parts"
     );

@@ -23,7 +23,7 @@ pub(crate) enum Part<'a> {
 }
 
 impl<'a> Part<'a> {
-    /// What the words ask for; none where they name no part.
+    /// What the words ask for; none if they name no part.
     pub(crate) fn read(words: &[&'a str]) -> Option<Part<'a>> {
         match *words {
             ["flows"] => Some(Part::Flows),

@@ -11,7 +11,7 @@ use std::io::{self, Read, Write};
 
 const STORE: u64 = 1;
 
-/// Answers the request lines of the input, until it ends; an error where the session broke off, as `serve_stream` tells it.
+/// Answers the request lines of the input, until it ends; an error if the session broke off, as `serve_stream` tells it.
 pub(crate) fn run<R: Read, W: Write>(
     alloc: Global,
     input: &mut R,

@@ -1,4 +1,4 @@
--- Where each step keeps its promise and each script keeps what a store stands for, so do acts of both kinds.
+-- If each step keeps its promise and each script keeps what a store stands for, so do acts of both kinds.
 use Rattle.std.proofs.Common.{◌≡◌, ◌≤◌, ◌+◌, ◌++◌, inr, ℕ, List, [], ◌∷◌, map, Option, refl, sym, ◌∙◌, ap, subst}
 use Rattle.std.proofs.lemmas.List.Elements.{All-head, All-tail}
 use Rattle.device.specs.Device.{State, left}

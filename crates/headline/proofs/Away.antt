@@ -1,4 +1,4 @@
--- A write calls no node that the store has not, but to drop what such a node should have given: then no node is called, and the write goes on or ends.
+-- A write calls no node that the store does not have, except to drop what such a node should have given: then no node is called, and the write goes on or ends.
 use Rattle.std.proofs.Common.{◌≡◌, ◌≤◌, ◌<◌, ⊎_elim, ℕ, Bool, List, ◌∷◌, Option, Some, None, MatchOption, Contains, refl, sym, ◌∙◌, ap, subst}
 use Rattle.std.proofs.lemmas.List.Elements.{All-contains}
 use Rattle.headline.proofs.Words.{Asks, Coordinator, Damaged, GivesTo, IsCalled, KeepsMemory, Moment, NodeCall, NodeName, NodeView, Ran, Refuses, Reply, Running, Shard, Shows, SlotTurns, StandsOver, State, Store, VerdictValue, WorldView, WriteId, WriteView, alone, called, coordinator, events_of, from_shard, left, named, node_at, shard, shown_until, stops, told_of, turn}

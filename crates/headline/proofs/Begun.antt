@@ -1,7 +1,7 @@
--- How the opening of a whole store begins. Where both devices of the coordinator are revived it is known what its opening finds, whether it then comes up or
--- is refused: the machine is cut to that, and the store stands, closed, over the revived devices. Where one fails as it is revived nothing is known of what
--- it would find: the store stands, closed, at all of its log, over the devices as they were. From there on each opening of a node is a step, the
--- coordinator's first.
+-- How the opening of a whole store begins. If both devices of the coordinator are revived it is known what its opening finds, whether it then comes up or is
+-- refused: the machine is cut to that, and the store stands, closed, over the revived devices. If one fails as it is revived nothing is known of what it
+-- would find: the store stands, closed, at all of its log, over the devices as they were. From there on each opening of a node is a step, the coordinator's
+-- first.
 use Rattle.std.proofs.Common.{◌≡◌, ◌≢◌, inl, ⊎_elim, ◌≤◌, ◌<◌, ℕ, List, [], get_or, Some, All, refl, sym, ◌∙◌, ap, subst, arith}
 use Rattle.std.proofs.lemmas.List.Elements.{All-nil}
 use Rattle.std.proofs.lemmas.Option.{same_Some}
@@ -82,7 +82,7 @@ module _ {D : Type 0} (state : D → State) (honest : D → Type 0) (moment : D 
       could : before coordinator reads.0
       could = ((state reopened.a).seen, (state reopened.b).seen, revived_a.found, revived_b.found, reads.1)
 
-      -- of a revived device a stop leaves what reads
+      -- a stop leaves of a revived device what reads
       alone : (s t : State) → Revived s t → (c : List ℕ) → left t c → c ≡ t.seen
       alone s t r c in_c = leaves_nothing_else t.durable c (subst (λ (w : List (ℕ × ℕ)). Leaves t.durable w c) r.written in_c) ∙ r.durable
 

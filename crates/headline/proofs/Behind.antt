@@ -1,4 +1,4 @@
--- The store that shows a world behind a call: its nodes as they then are, and other flows.
+-- The store that shows a world after a call: its nodes as they then are, and other flows.
 use Rattle.std.proofs.Common.{◌≡◌, ◌≢◌, ⊎_elim, ◌==◌, ℕ, false, List, Option, Some, None, refl, sym, ◌∙◌, ap, if◌then◌else◌}
 use Rattle.std.proofs.lemmas.Bool.{cases_Bool, eq-eqb, eqb-true}
 use Rattle.headline.proofs.Words.{FlowView, IsNamed, IsNode, IsThere, NodeName, NodeState, NodeView, ShowsMemory, SlotTurns, Store, WriteId, coordinator, devices_of, named, node_at, shard, shown}

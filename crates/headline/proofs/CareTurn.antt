@@ -46,7 +46,7 @@ no_name : (o : Option CallName) → is_some o ≡ false → o ≡ None
 no_name None is = refl
 no_name (Some name) is = absurd (true≢false is)
 
--- behind its turn it stands in its slot or has left it, as is told
+-- after its turn it stands in its slot or has left it, as is told
 module _ (shards : ℕ) (old : List (Option Flow)) (slot : ℕ) (next : CareFlow) (told : Option What) (new : List (Option Flow)) (l : Leaves old slot (Care next) told new) (there : IsThere shards next) where
   abbrev IsLeft : Option CareEnd → Type 0
   IsLeft end = IsShownSlot shards (flow_at new slot) (in_slot (shows_care next) end) × (all_told told ≡ tells end ∷ [])

@@ -19,7 +19,7 @@ same_refusal e f is = cc
 down_not_full : Down ≡ Full → ⊥
 down_not_full is = cc
 
--- it shows its records where it is not down
+-- it shows its records if it is not down
 pub shown_up : (is_down : Bool) (durable staged : List Record) → is_down ≡ false → (if is_down then down else up durable staged) ≡ up durable staged
 shown_up is_down durable staged is = ap (λ (b : Bool). if b then down else up durable staged) is
 

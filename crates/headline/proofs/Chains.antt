@@ -1,4 +1,4 @@
--- Where each step of a world keeps the promise of one step, a list of steps keeps that of a chain.
+-- If each step of a world keeps the promise of one step, a list of steps keeps that of a chain.
 use Rattle.std.proofs.Common.{◌≡◌, ◌+◌, ◌++◌, ℕ, List, [], ◌∷◌, map, Option, Some, None, refl, sym, ◌∙◌, ap, subst}
 use Rattle.std.proofs.lemmas.List.{map-append}
 use Rattle.std.proofs.lemmas.List.Elements.{All-head, All-tail}

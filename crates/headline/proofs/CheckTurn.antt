@@ -31,7 +31,7 @@ end_told : (end : CheckEnding) (told : Option What) → TellsCheck end told → 
 end_told (check_views.checked place is_member) told is = ap all_told is
 end_told (check_views.refused e) told is = ap all_told is
 
--- behind its turn it stands in its slot or has left it, as is told
+-- after its turn it stands in its slot or has left it, as is told
 module _ (shards : ℕ) (x : Userset) (v : CheckFlowValue) (asked : IsAsked shards (check_of x v)) (old : List (Option Flow)) (slot : ℕ) (w : CheckFlowValue) (told : Option What) (new : List (Option Flow))
     (l : Leaves old slot (Check w) told new) (of : w.shards ≡ shards) (same : check_of x w ≡ check_of x v) (rests : w.seen.awaited ≡ None) where
   abbrev IsLeft : Option CheckEnding → Type 0

@@ -17,11 +17,11 @@ closed_with m told = record (closed_at m) { told = told }
 never_refused : (e : Refusal) → down ≡ refused e → ⊥
 never_refused e is = cc
 
--- an id of which somebody was told that it is aborted: it was given out, and no write above the horizon has it
+-- an id that somebody was told is aborted: it was given out, and no write above the horizon has it
 abbrev pub IsSoTold : (List Record → Type 0) → Machine → WriteId → Type 0
 IsSoTold at_coordinator m id = IsGivenOut at_coordinator id × IsUnlistedAbove m.horizon id m.log
 
--- nothing is staged of nodes that are down
+-- nothing is staged at nodes that are down
 pub only_left : (left : NodeName → List Record → Type 0) (n : NodeName) (rs : List Record) → leaves left closed_nodes n rs → left n rs
 only_left left n rs (was, is_left, which) = subst (left n) (sym (⊎_elim (λ plain. plain) (λ more. more ∙ append-nil was) which)) is_left
 
@@ -53,7 +53,7 @@ module _ (store shards : ℕ) (left : NodeName → List Record → Type 0) (m : 
         record { given = record { epoch = told_so.0; now = λ kept memory k. absurd (nothing_is_up k.is_up) }; closed = λ w has. absurd (nothing_in _ has); none = told_so.1 };
   }
 
-  -- Where whatever a stop leaves of a shard means the whole log, the store stands at all of it, whatever is left of the coordinator.
+  -- If whatever a stop leaves of a shard means the whole log, the store stands at all of it, whatever is left of the coordinator.
   module _ (rests : Rests store shards m.log m.kept m.horizon (left coordinator) (at_shards left)) (some : (rs : List Record) × left coordinator rs)
       (listed : (s : ℕ) (found : List Record) → s < shards → left (shard s) found → ShardMeans shards s m.log m.horizon m.horizon (shard_state found))
       (given : (w : Entry) → Contains m.log w → IsGivenOut (left coordinator) w.id) where

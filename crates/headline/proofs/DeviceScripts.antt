@@ -15,7 +15,7 @@ use Rattle.headline.proofs.Nodes.{IsPut, is_put}
 use Rattle.headline.proofs.Memory.{same_memory}
 use Rattle.turns.proofs.QuietTurns.{is_same_node}
 
--- of two devices that hold the same, a stop may leave the same
+-- a stop may leave the same of two devices that hold the same
 same_found : (a b x y : State) → Keeps a x → Keeps b y → Finds (left x) (left y) ≡ Finds (left a) (left b)
 same_found a b x y in_a in_b =
     ap (λ (d : List ℕ). Finds (left (record x { durable = d })) (left y)) in_a.durable
@@ -110,7 +110,7 @@ module _ {D : Type 0} (set : D → ℕ → Tear → Type 0) (state : D → State
     other_at : (m : NodeName) → m ≢ n → later.at m ≡ s.at m
     other_at m ne = same_at old.store old.shards nodes s.flows s m (node_at old.nodes (named m)) (put.others m ne) (λ v is_v. shows.nodes m v is_v)
 
-    -- where each device that the store has is honest, a stop may leave of each node what it could leave before
+    -- if each device that the store has is honest, a stop may leave of each node what it could leave before
     module _ (now : Moment) (standing : Stand s now) where
       abbrev stops_of : (NodeName → D × D) → NodeName → List Record → Type 0
       stops_of = stops state honest old.store old.shards

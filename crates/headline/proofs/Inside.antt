@@ -33,7 +33,7 @@ module _ {D : Type 0} (state : D → State) (honest : D → Type 0) (moment : D 
   abbrev since : NodeName → List Record → Type 0
   since = stops_since state honest moment left_since store shards old new
 
-  -- records that a stop could leave of the node, with the record of an opening behind them
+  -- records that a stop could leave of the node, with the record of an opening after them
   abbrev pub IsReopenedNode : NodeName → List Record → Type 0
   IsReopenedNode coordinator rs = IsReopenedCoordinator store shards before rs
   IsReopenedNode (shard s) rs = IsReopenedShard store shards s before rs
@@ -86,7 +86,7 @@ module _ {D : Type 0} (state : D → State) (honest : D → Type 0) (moment : D 
       in_words : (c d : List ℕ) → WasOrIsLonger state honest moment left_since counts_now only_now (image_of store shards n) (opening_of store shards n) (old n).0 (old n).1 c d → HoldsAsBefore n c d
       in_words c d (rs, is_found, which) = (rs, is_found, ⊎_elim (λ was. inl was) (λ longer. inr (as_reopened n rs longer)) which)
 
-  -- where it is so of each node that is there
+  -- if it is so of each node that is there
   module _ (all : (n : NodeName) → IsThere shards n → HoldsOn n) where
     pub sound_now : AreSound state honest store shards new
     sound_now = record {
@@ -134,7 +134,7 @@ module _ {D : Type 0} (state : D → State) (honest : D → Type 0) (moment : D 
       given = λ id given rs is. given_still id rs given (at_node coordinator rs is tt);
     }
 
-    -- and no horizon is new, where the coordinator has staged nothing
+    -- and no horizon is new, if the coordinator has staged nothing
     pub old_horizon : (next nodes : Nodes) → staged_of (next.at coordinator) ≡ [] → (x : ℕ) → IsHorizonIn store shards (stops state honest store shards new) next x → IsHorizonIn store shards before nodes x
     old_horizon next nodes none x (some, (rs, (was, is_left, which), high)) =
         let same : rs ≡ was = ⊎_elim (λ plain. plain) (λ more. more ∙ ap (λ (l : List Record). was ++ l) none ∙ append-nil was) which in

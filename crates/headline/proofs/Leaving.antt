@@ -1,4 +1,4 @@
--- How a flow is left behind its turn: it goes on where a call of it comes next, and is gone where none does.
+-- How a flow is left after its turn: it goes on if a call of it comes next, and is gone if none does.
 use Rattle.std.proofs.Common.{◌≡◌, ◌≢◌, ℕ, List, Option, Some, None, MatchOption, refl, subst}
 use Rattle.headline.proofs.Words.{CallName, Flow, GoesOn, HasGone, Leaves, What, flow_at}
 use Rattle.cluster.specs.Flows.{NamesNext, next_name_of}

@@ -29,7 +29,7 @@ module _ {D : Type 0} (state : D → State) (honest : D → Type 0) (moment : D 
   is_there : (n : NodeName) (v : NodeView D) → node_at old.nodes (named n) ≡ Some v → IsThere old.shards n
   is_there n v is = (shows.nodes n v is).there
 
-  -- The node that a call names is put in place of what it was.
+  -- The node that a call names replaces what it was.
   module _ (now : Moment) (standing : Stand now) (call : NodeCall) (reply : Reply) (was is : NodeView D) (nodes : List (NodeView D)) (flows : ℕ → Option FlowView)
       (put : IsPut old.nodes (called call) is nodes) (at : node_at old.nodes (named (called call)) ≡ Some was) (answered : Answered state honest moment left_since was call reply is) where
     abbrev later : Store D
@@ -85,7 +85,7 @@ module _ {D : Type 0} (state : D → State) (honest : D → Type 0) (moment : D 
         shows_node old.store old.shards nodes flows s n v is_v node.there node.named)
         (is_same_node n (called call))
 
-  -- A call of a node that the store has not leads to nothing, or to a turn in which no node was called.
+  -- A call of a node that the store does not have leads to nothing, or to a turn in which no node was called.
   abbrev pub Stays : WorldView D → ℕ → NodeCall → Reply → Option FlowView → List Told → Type 0
   Stays new slot call reply g t = (now : Moment) → Stand now → node_at old.nodes (named (called call)) ≡ None → new.nodes ≡ old.nodes → Refuses Damaged call reply
       → (number : ℕ) → Ran state honest moment left_since old.store old.shards s now number (turn slot) (events_of number t) (behind new.nodes (with_slot slot g s.flows) s)
@@ -94,7 +94,7 @@ module _ {D : Type 0} (state : D → State) (honest : D → Type 0) (moment : D 
   pub never_away : (new : WorldView D) (slot : ℕ) (call : NodeCall) (reply : Reply) (g : Option FlowView) (t : List Told) → ((now : Moment) → Stand now → IsThere old.shards (called call)) → Stays new slot call reply g t
   never_away new slot call reply g t there now standing none = absurd (node_there old.shards old.nodes (called call) shows.count (there now standing) none)
 
-  -- The flow in a slot, which is shown so, makes a call, and is shown so behind it, or has left the slot; by the law of its kind that is a turn of a run.
+  -- The flow in a slot, which is shown so, makes a call, and is shown so after it, or has left the slot; by the law of its kind that is a turn of a run.
   module _ (new : WorldView D) (slot : ℕ) (told : Option What) (call : NodeCall) (reply : Reply) (view : FlowView) (g : Option FlowView) (t : List Told)
       (before : s.flows slot ≡ Some view) (calls : Called state honest moment left_since old.shards old.nodes call reply new.nodes) (new_is : new ≡ record old { nodes = new.nodes; flows = new.flows })
       (is_shown : IsShownSlot old.shards (flow_at new.flows slot) g) (others : (k : ℕ) → k ≢ slot → flow_at new.flows k ≡ flow_at old.flows k) (tells : all_told told ≡ t)

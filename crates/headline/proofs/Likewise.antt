@@ -1,4 +1,4 @@
--- Devices rest likewise where they are sound, and where a stop leaves no records of a node that it could not leave of the others.
+-- Devices rest likewise if they are sound, and if a stop leaves no records of a node that it could not leave of the others.
 use Rattle.std.proofs.Common.{ℕ, List}
 use Rattle.records.specs.declared.record.Record.{Record}
 use Rattle.device.specs.Device.{State}

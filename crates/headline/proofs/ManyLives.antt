@@ -36,7 +36,7 @@ use Rattle.headline.proofs.PastWrites.{past_writes_stay}
 use Rattle.headline.proofs.StopMoves.{stop_moves}
 use Rattle.headline.proofs.Whole.{openings_keep}
 
--- where the devices of the nodes that are there are the same, they rest likewise
+-- if the devices of the nodes that are there are the same, they rest likewise
 module _ {D : Type 0} (state : D → State) (honest : D → Type 0) (moment : D → ℕ) (left_since : D → ℕ → List ℕ → Type 0) (store shards : ℕ) (old new : NodeName → D × D)
     (same : (n : NodeName) → IsThere shards n → new n ≡ old n) where
   was_left : (n : NodeName) (found : List Record) → IsThere shards n → stops state honest store shards new n found → stops state honest store shards old n found
@@ -99,7 +99,7 @@ module _ {D : Type 0} (set : D → ℕ → Tear → Type 0) (state : D → State
           subst (λ (n : ℕ). KeepsActs set state honest moment left_since n shards k.later reopened.after 0 life.acts life.told last) is_opened.store_is
           (subst (λ (n : ℕ). KeepsActs set state honest moment left_since opened.store n k.later reopened.after 0 life.acts life.told last) is_opened.shards_is all)
 
-      -- what a life is that got behind its opening, where moves lead on from its last moment
+      -- what a life is that got past its opening, if moves lead on from its last moment
       runs_in : (last : WorldView D) (over : KeepsActs set state honest moment left_since store shards k.later reopened.after 0 life.acts life.told last) (after : Machine) (ending : List Move)
           → Moves over.after.machine ending after → RunsIn set state honest moment left_since store shards any old m ids life after over.after.told
       runs_in last over after ending ends = record {

@@ -17,7 +17,7 @@ shard_memory store shards t (views.coordinator v) s named = absurd named
 shard_memory store shards t (views.shard v) s named = tt
 shard_memory store shards t (views.refused e a b) s named = tt
 
--- a store behind the opening of one of its nodes
+-- a store after the opening of one of its nodes
 abbrev pub with_node : {D : Type 0} → Store D → NodeName → NodeView D → Store D
 with_node s n is = record {
   devices = in_place n (devices_of is) s.devices;
@@ -34,7 +34,7 @@ memory_elsewhere store shards coordinator (shard t) v is s ne named shows = same
 memory_elsewhere store shards (shard k) n v is s ne named shows = shard_memory store shards k v (with_node s n is) named
 
 module _ {D : Type 0} (state : D → State) (honest : D → Type 0) (moment : D → ℕ) (left_since : D → ℕ → List ℕ → Type 0) (store shards : ℕ) where
-  -- the node that was opened has its name, and a store behind the opening shows its memory
+  -- the node that was opened has its name, and a store after the opening shows its memory
   is_named : (n : NodeName) (a b : D) (is : NodeView D) → Opens state honest moment left_since store shards (named n) a b is → IsNamed store shards is n
   is_named coordinator a b (views.coordinator v) o = o.fresh.2
   is_named coordinator a b (views.shard v) o = absurd o

@@ -1,4 +1,4 @@
--- The nodes of a world behind a call of one of them.
+-- The nodes of a world after a call of one of them.
 use Rattle.std.proofs.Common.{◌≡◌, ◌≢◌, ◌<◌, ◌+◌, ℕ, zero, suc, List, [], ◌∷◌, length, Some, None, slice_get, set, refl, sym, ◌∙◌, ap, arith}
 use Rattle.headline.proofs.Words.{IsThere, NodeCall, NodeName, NodeView, called, coordinator, index_of, named, node_at, node_of, of_coordinator, of_shard, shard}
 

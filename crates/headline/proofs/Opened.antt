@@ -21,7 +21,7 @@ abbrev pub opened_to : {X : Type 0} → (NodeName → X) → (NodeName → X) �
 opened_to f g zero = in_place coordinator (f coordinator) g
 opened_to f g (suc k) = in_place (shard k) (f (shard k)) (opened_to f g k)
 
--- a node among the first, but for the last of them
+-- a node among the first, except for the last of them
 among_first : (k : ℕ) (n : NodeName) → IsThere (suc k) n → n ≢ shard k → IsThere k n
 among_first k coordinator there other = tt
 among_first k (shard s) there other = ⊎_elim
@@ -77,8 +77,8 @@ module _ {D : Type 0} (state : D → State) (honest : D → Type 0) (moment : D 
   abbrev pub states : ℕ → NodeName → NodeState
   states = opened_to (λ n. shown (node n)) (λ n. down)
 
-  -- A moment for which the store stands then: moves of an opening lead to its machine; no flow runs; who was told that a write is aborted was told so for
-  -- good; the nodes that were opened are up or refused, and the others down; and all is kept that a coordinator that is up has found.
+  -- A moment for which the store stands then: moves of an opening lead to its machine; no flow runs; whoever was told that a write is aborted was told so
+  -- for good; the nodes that were opened are up or refused, and the others down; and all that a coordinator that is up has found is kept.
   pub record IsOpenedUpTo (m : Machine) (told : List WriteId) (k : ℕ) : Type 0 where
     pub after : Moment
     pub stands : Stands store shards (stops state honest store shards (devices k)) after
@@ -152,7 +152,7 @@ module _ {D : Type 0} (state : D → State) (honest : D → Type 0) (moment : D 
         kept = let t = of_coordinator.step.tells in kept_by shards found_between of_coordinator.after t.0 t.2;
       }
 
-      -- one shard more
+      -- one more shard
       module _ (k : ℕ) (lt : k < shards) (u : IsOpenedUpTo m told k) where
         there_as_it_was : Reopened state honest moment left_since store shards (named (shard k)) (devices k (shard k)).0 (devices k (shard k)).1 (node (shard k))
         there_as_it_was = subst (λ (p : D × D). Reopened state honest moment left_since store shards (named (shard k)) p.0 p.1 (node (shard k)))

@@ -1,4 +1,4 @@
--- A write that came to nothing, over devices that rest: through an opening, and behind a stop.
+-- A write that came to nothing, over devices that rest: through an opening, and after a stop.
 use Rattle.std.proofs.Common.{◌≡◌, ⊎_elim, inl, ◌<◌, ◌+◌, ◌++◌, ℕ, zero, suc, List, [], ◌∷◌, All, Some, Contains, length, slice_get, take, sym, ◌∙◌, ap, subst, arith}
 use Rattle.std.proofs.lemmas.List.{append-nil}
 use Rattle.std.proofs.lemmas.List.Elements.{All-cons, All-head, All-nil}
@@ -63,7 +63,7 @@ module _ {D : Type 0} (state : D → State) (honest : D → Type 0) (moment : D 
     abbrev reopened : Reopened state honest moment left_since store shards old m ids new
     reopened = (reopens m ids rests told_all).0
 
-    -- it may be told that the write is aborted, and what is told is given out behind the opening
+    -- it may be told that the write is aborted, and what is told is given out after the opening
     given_out : IsGivenOut (stops state honest store shards new.devices coordinator) id
     given_out =
         let one : IsToldOver state honest store shards old m id = record { given = past.given; none = λ j w at above. past.unlisted j w at } in

@@ -59,7 +59,7 @@ records_of (up durable staged) = durable ++ staged
 records_of down = []
 records_of (refused e) = []
 
--- a coordinator that is up behind a call was up before it, in the same epoch
+-- a coordinator that is up after a call was up before it, in the same epoch
 abbrev StaysUp : NodeState → NodeState → Type 0
 StaysUp old new = (durable staged : List Record) → new ≡ up durable staged
     → (d : List Record) × (g : List Record) × (old ≡ up d g) × ((coordinator_state (durable ++ staged)).epoch ≡ (coordinator_state (d ++ g)).epoch)
@@ -93,7 +93,7 @@ coordinator_stays coordinator old new others turns = stays_up (old.at coordinato
 coordinator_stays (shard s) old new others turns = stays_up (old.at coordinator) (new.at coordinator) (inl (others.others coordinator (λ is. cc)))
 
 module _ {D : Type 0} (state : D → State) (honest : D → Type 0) (moment : D → ℕ) (left_since : D → ℕ → List ℕ → Type 0) (store shards : ℕ) where
-  -- an id that the coordinator gave it gave, where it stays up and gives no fewer
+  -- an id that the coordinator gave it gave, if it stays up and gives no fewer
   pub given_by_it : (before after : Nodes) (id : WriteId) → StaysUp (before.at coordinator) (after.at coordinator) → before.given ≤ after.given
       → ((kept memory : CoordinatorState) → CoordinatorKnows before kept memory → IsGivenBy before memory id) → (kept memory : CoordinatorState) → CoordinatorKnows after kept memory → IsGivenBy after memory id
   given_by_it before after id stays le given kept memory k =

@@ -1,4 +1,4 @@
--- What stands at one node in place of what stood there.
+-- What replaces what stood at one node.
 use Rattle.std.proofs.Common.{◌≡◌, ◌≢◌, ⊎_elim, ◌==◌, refl, ap, if◌then◌else◌}
 use Rattle.std.proofs.lemmas.Bool.{cases_Bool, eq-eqb, eqb-true}
 use Rattle.headline.proofs.Words.{NodeName, coordinator, shard}

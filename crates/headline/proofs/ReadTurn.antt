@@ -37,7 +37,7 @@ end_told (read_views.selected place rows) (Some (Ended (Selected at sets))) is =
 end_told (read_views.refused e) told is = ap all_told is
 end_told (read_views.selected place rows) told is = absurd is
 
--- behind its turn it stands in its slot or has left it, as is told
+-- after its turn it stands in its slot or has left it, as is told
 module _ (shards : ℕ) (v : ReadFlowValue) (asked : IsAsked shards (read_of v)) (old : List (Option Flow)) (slot : ℕ) (w : ReadFlowValue) (told : Option What) (new : List (Option Flow))
     (l : Leaves old slot (Read w) told new) (of : w.shards ≡ shards) (same : read_of w ≡ read_of v) (rests : w.seen.awaited ≡ None) where
   abbrev IsLeft : Option ReadEnding → Type 0

@@ -16,7 +16,7 @@ use Rattle.headline.proofs.Places.{in_place_elsewhere, in_place_here}
 use Rattle.headline.proofs.Reopening.{are_over}
 use Rattle.headline.proofs.Stepped.{IsStepped, given_behind, ids_behind, stepped, told_by}
 
--- behind its opening a node has staged nothing, and is not down
+-- after its opening a node has staged nothing, and is not down
 pub opened_so : (shards : ℕ) (may : ℕ → Type 0) (n : NodeName) (after : Moment) (t : Told) → OpensAs shards may n after t → (staged_of (after.nodes.at n) ≡ []) × (after.nodes.at n ≢ down)
 opened_so shards may n after (runs.began slot) is = absurd is
 opened_so shards may n after runs.goes_on is = absurd is
@@ -24,7 +24,7 @@ opened_so shards may n after (runs.answered answer) is = absurd is
 opened_so shards may n after runs.came_up is = (ap staged_of is.0.1, λ gone. let both : up is.0.0 [] ≡ down = sym is.0.1 ∙ gone in cc)
 opened_so shards may n after (runs.refuses e) is = (ap staged_of is.0, λ gone. let both : refused e ≡ down = sym is.0 ∙ gone in cc)
 
--- the flows behind it are shown as before
+-- the flows after it are shown as before
 flows_behind : (n : NodeName) (may : ℕ → Type 0) (shards : ℕ) (now after : Moment) (told : List Told) (r : Restarts shards may now n told after) (slot : ℕ) (v : Option FlowView) → ShowsSlot (flow_at slot now.running) v
     → ShowsSlot (flow_at slot after.running) v
 flows_behind coordinator may shards now after told r slot v shows = subst (λ (l : List Running). ShowsSlot (flow_at slot l) v) (sym r.allowed.1) (shows_reopened slot now.running v shows)
@@ -132,7 +132,7 @@ module _ {D : Type 0} (state : D → State) (honest : D → Type 0) (moment : D 
       one_node : (k : NodeName) → restart k ≡ restart n → k ≡ n
       one_node k same = cc
 
--- What is known behind a restart of node n: a store that shows the world, and the promise of the step.
+-- What is known after a restart of node n: a store that shows the world, and the promise of the step.
 record KeepsOf {D : Type 0} (state : D → State) (honest : D → Type 0) (moment : D → ℕ) (left_since : D → ℕ → List ℕ → Type 0) (old : WorldView D) (s : Store D) (n : NodeName) (told : Option What) (new : WorldView D) : Type 0 where
   pub later : Store D
   pub shows : Shows new later

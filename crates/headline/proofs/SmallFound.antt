@@ -1,22 +1,22 @@
--- Small contents with more behind them, and devices that are found of others, or are not.
+-- Small contents with more after them, and devices that are found of others, or are not.
 use Rattle.std.proofs.Common.{◌≡◌, ⊎_elim, inr, ℕ, false, List, [], ◌∷◌, ◌++◌, Some, None, refl, sym, subst, arith}
 use Rattle.gated.specs.Gated.{IsSpelled, gated}
 use Rattle.device.specs.Device.{State}
 use Rattle.device.proofs.Moments.{leaves_itself, leaves_nothing_else}
 use Rattle.headline.specs.Found.{IsFoundIn, IsFoundOf}
 
--- a record of one byte in front of a closed gate
+-- a record of one byte before a closed gate
 abbrev one : List ℕ
 one = 165 ∷ 0 ∷ 0 ∷ 0 ∷ 1 ∷ 7 ∷ 0 ∷ []
 
 one_is_spelled : IsSpelled one ((7 ∷ []) ∷ []) 6
 one_is_spelled = record { gate = 0; rest = []; fit = ((omega arith, omega arith), tt); closed = λ is. absurd cc; content_is = refl; end_is = refl }
 
--- it is found with zeros behind it, and with any other bytes
+-- it is found with zeros after it, and with any other bytes
 one_with_more : (more : List ℕ) → IsFoundIn one (one ++ more)
 one_with_more more = inr ((7 ∷ []) ∷ [], 6, more, one_is_spelled, refl)
 
--- An open gate that ends a content is none, and with zeros behind it is damage: so a content that no closed gate ends is found as it is.
+-- An open gate that ends a content is no gate, and with zeros after it is damage: so a content that no closed gate ends is found as it is.
 open_alone : gated (165 ∷ []) ≡ Some []
 unfolding gated
 open_alone = refl
@@ -32,7 +32,7 @@ settled content = record { seen = content; durable = content; written = []; stop
 abbrev IsFoundThere : List ℕ → List ℕ → Type 0
 IsFoundThere old new = IsFoundOf (λ (s : State). s) (λ (s : State). Unit {0}) (settled old) (settled new)
 
--- Of one record with a closed gate a file that is longer is found, whatever stands behind; and none that lacks it.
+-- A longer file is found of one record with a closed gate, whatever follows; and no file that lacks it.
 longer_is_found : (more : List ℕ) → IsFoundThere one (one ++ more)
 longer_is_found more = record {
   is_honest = tt;

@@ -1,4 +1,4 @@
--- A small life of a store: over devices to which nothing was ever written, and which fail once more as they are revived, one shard and its coordinator are
+-- A small life of a store: over devices to which nothing was ever written, and which fail again as they are revived, one shard and its coordinator are
 -- opened, and each is refused as down. A flush of the coordinator begins, ends with that refusal, and a turn of its slot then finds no flow. So all that the
 -- headline asks for can be met at once.
 use Rattle.std.proofs.Common.{◌≡◌, ◌≢◌, inl, inr, ◌≤◌, ℕ, zero, suc, false, true, true≢false, List, [], ◌∷◌, length, Option, Err, Some, None, All, refl, sym, ◌∙◌, arith}
@@ -22,7 +22,7 @@ use Rattle.turns.specs.StoreLaws.{IsUnmade}
 use Rattle.turns.proofs.ClosedStoreRests.{unmade_stores_rest}
 use Rattle.headline.proofs.Joined.{lives}
 
--- the flush of the coordinator before its call, with the call out, and behind its end
+-- the flush of the coordinator before its call, with the call out, and after its end
 abbrev fresh : CareFlow
 fresh = Flush (record { node = named.Coordinator; is_checkpoint = false; seen = ready tt flush })
 
@@ -56,7 +56,7 @@ away d = refused Down d d
 abbrev pub world : {D : Type 0} → D → List (Option Flow) → WorldView D
 world d flows = record { store = 7; shards = 1; nodes = away d ∷ away d ∷ []; flows = flows }
 
--- in each slot but the first there is as much as where there is none
+-- each slot but the first has as much as when there is none
 elsewhere : (flow : Option Flow) (slot : ℕ) → slot ≢ 0 → flow_at (flow ∷ []) slot ≡ flow_at [] slot
 elsewhere flow zero ne = absurd (ne refl)
 elsewhere flow (suc slot) ne = refl
@@ -120,7 +120,7 @@ module _ {D : Type 0} (state : D → State) (honest : D → Type 0) (moment : D 
   )
 
   module _ (is_honest : honest old) (unmade : IsUnmade (state old)) (revived : IsRevived state honest moment left_since old new) (failed : Failed (state old) (state new)) where
-    -- each node is opened over devices that fail once more
+    -- each node is opened over devices that fail again
     fails : (name : NodeName) → Reopened state honest moment left_since 7 1 name old old (away new)
     fails name = record { a = new; b = new; revived_a = revived; revived_b = revived; opens = inr (refl, inl failed) }
 
@@ -141,7 +141,7 @@ module _ {D : Type 0} (state : D → State) (honest : D → Type 0) (moment : D 
         unmade_there (shard zero) there = (unmade, unmade)
         unmade_there (shard (suc s)) there = absurd (omega (arith, there))
 
-    -- so the store lives, where what a stop may leave of a device since now is what it may leave now: by these steps, and by none
+    -- so the store lives, if what a stop may leave of a device since now is what it may leave now: by these steps, and by none
     module _ (counts_now : (d : D) (t : ℕ) (c : List ℕ) → honest d → t ≤ moment d → left (state d) c → left_since d t c)
         (only_now : (d : D) (c : List ℕ) → honest d → left_since d (moment d) c → left (state d) c) where
       pub life : Lives state honest moment left_since 7 1 (devices_at old (four old)) empty_machine [] steps events (world new (None ∷ []))

@@ -1,4 +1,4 @@
--- The start of a flow keeps the promise of a step: it begins in a free slot, is refused where as many run as may, or may not be asked for.
+-- The start of a flow keeps the promise of a step: it begins in a free slot, is refused if as many run as may, or may not be asked for.
 use Rattle.std.proofs.Common.{◌≡◌, ◌⊎◌, ⊎_elim, inl, inr, ◌<◌, ◌≤◌, ℕ, List, [], length, Option, Some, refl, sym, ◌∙◌, ap, subst, arith}
 use Rattle.std.proofs.lemmas.Bool.{cases_eq, cases_lt}
 use Rattle.headline.proofs.Words.{AddsFlow, Asked, Began, Flow, FlowView, Freshness, Full, IsAsked, IsShownFlow, IsShownSlot, IsThere, IsWholeStep, Keeps, NamesHorizon, NodeName, RunsOne, Shows, Start, State, Step, StepKeeps, Store, What, WorldView, all_told, care_for, events_of, flow_at, flow_count, left, nothing_held, shown_flow, step_of}

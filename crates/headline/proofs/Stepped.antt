@@ -24,8 +24,8 @@ use Rattle.headline.proofs.Within.{less_left}
 abbrev pub told_by : {D : Type 0} → NodeView D → Told
 told_by is = told_of (told_of_opening (refusal_of is))
 
--- what lies in the coordinator's memory alone, behind an opening of a node: it forgets the open writes where it is opened itself, and where it comes up it
--- has given no number
+-- what lies in the coordinator's memory alone, after an opening of a node: it forgets the open writes if it is opened itself, and if it comes up it has
+-- given no number
 abbrev pub ids_behind : NodeName → List WriteId → List WriteId
 ids_behind coordinator ids = []
 ids_behind (shard s) ids = ids
@@ -63,7 +63,7 @@ module _ {D : Type 0} (state : D → State) (honest : D → Type 0) (moment : D 
     abbrev after : NodeName → List Record → Type 0
     after = stops state honest store shards new
 
-    -- so much rests without what is staged
+    -- this much rests without what is staged
     plain : Rests store shards now.machine.log now.machine.kept now.machine.horizon (before coordinator) (at_shards before)
     plain = (less_rests (leaves before now.nodes coordinator) (before coordinator) (at_shards (leaves before now.nodes)) (at_shards before) store shards now.machine.log now.machine.kept now.machine.horizon
         (λ found is. (found, is, inl refl)) (λ t found is. (found, is, inl refl))).0 st.rests

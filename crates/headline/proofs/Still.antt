@@ -22,7 +22,7 @@ other_flows old s shows flows shown are = record {
 
 module _ {D : Type 0} (state : D → State) (honest : D → Type 0) (moment : D → ℕ) (left_since : D → ℕ → List ℕ → Type 0)
     (only_now : (d : D) (c : List ℕ) → honest d → left_since d (moment d) c → left (state d) c) where
-  -- a step that is idle keeps the promise: the moment behind it is the one before
+  -- a step that is idle keeps the promise: the moment after it is the one before
   idle_ran : (store shards : ℕ) (s : Store D) (now : Moment) → StandsOver state honest store shards s now → (number : ℕ) (step : runs.Step) → ((n : NodeName) → step ≡ runs.restart n → ⊥)
       → runs.Takes shards (NamesHorizon state honest store shards s now) now step [] now → Ran state honest moment left_since store shards s now number step [] s
   idle_ran store shards s now standing number step no_restart takes = record {

@@ -7,7 +7,7 @@ use Rattle.turns.specs.StoreLaws.{IsStopOf}
 at_log : List Entry → Machine → Machine
 at_log log m = record { log = log; kept = m.kept; horizon = m.horizon }
 
--- what moves do to the log alone, they do where no more is kept, and the horizon is any
+-- what moves do to the log alone, they do if no more is kept, and the horizon is any
 log_moves : (low m n : Machine) (moves : List Move) → low.kept ≤ m.kept → Moves m moves n → (others : List Move) × Moves (at_log m.log low) others (at_log n.log low)
 unfolding at_log
 log_moves low m n [] le is = ([], ap (λ (x : Machine). at_log x.log low) is)

@@ -35,7 +35,7 @@ end_told (watch_views.listed place events) (Some (Ended (Listed at all))) is =
 end_told (watch_views.refused e) told is = ap all_told is
 end_told (watch_views.listed place events) told is = absurd is
 
--- behind its turn it stands in its slot or has left it, as is told
+-- after its turn it stands in its slot or has left it, as is told
 module _ (shards : ℕ) (v : WatchFlowValue) (asked : IsAsked shards (asked_of v)) (old : List (Option Flow)) (slot : ℕ) (w : WatchFlowValue) (told : Option What) (new : List (Option Flow))
     (l : Leaves old slot (Watch w) told new) (same : asked_of w ≡ asked_of v) (rests : w.seen.awaited ≡ None) where
   abbrev IsLeft : Option WatchEnding → Type 0

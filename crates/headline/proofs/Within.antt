@@ -47,7 +47,7 @@ module _ {D : Type 0} (state : D → State) (honest : D → Type 0) (moment : D 
     pub left_by : (Revived (state old_a) (state a) × Revived (state old_b) (state b) × LeavesBoth moment left_since a b new_a new_b (WasLeftOrLonger image opening (state a) (state b)))
         ⊎ ((new_a ≡ a) × (new_b ≡ b))
 
-  -- records that two devices could be left with, and behind them the record of an opening
+  -- records that two devices could be left with, and after them the record of an opening
   abbrev pub IsLonger : (List Record → Type 0) → (List Record → Record) → D → D → List Record → Type 0
   IsLonger image opening old_a old_b rs = (was : List Record) × Finds (left (state old_a)) (left (state old_b)) was × image (was ++ opening was ∷ []) × (rs ≡ was ++ opening was ∷ [])
 
@@ -73,7 +73,7 @@ module _ {D : Type 0} (state : D → State) (honest : D → Type 0) (moment : D 
     of_b : (d : List ℕ) → left (state over.b) d → left (state old_b) d
     of_b = less_left old_b over.b hon_b over.revived_b
 
-    -- what an opening leaves, where both devices read as they could be left
+    -- what an opening leaves, if both devices read as they could be left
     by_opening : left (state old_a) (state over.a).seen → left (state old_b) (state over.b).seen → (c d : List ℕ) → WasLeftOrLonger image opening (state over.a) (state over.b) c d
         → WasOrIsLonger image opening old_a old_b c d
     by_opening in_a in_b c d (inl was) = read_as c d was.0 was.1 was.4 (of_a was.0 was.2) (of_b was.1 was.3)

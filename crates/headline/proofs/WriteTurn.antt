@@ -24,7 +24,7 @@ next_told : (is_cancelled : Bool) (name : CallName) → all_told (unless is_canc
 next_told true name = refl
 next_told false name = refl
 
--- behind its turn it stands in its slot or has left it, as is told
+-- after its turn it stands in its slot or has left it, as is told
 module _ (shards : ℕ) (is_cancelled : Bool) (old : List (Option Flow)) (slot : ℕ) (w : Writing) (told : Option What) (new : List (Option Flow)) (l : Leaves old slot (Write w) told new)
     (of : w.flow.shards ≡ shards) (same : w.is_cancelled ≡ is_cancelled) (rests : w.flow.seen.awaited ≡ None) where
   abbrev IsLeft : Option WriteEnd → Type 0

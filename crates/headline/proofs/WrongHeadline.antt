@@ -30,7 +30,7 @@ module _ {D : Type 0} (state : D → State) (honest : D → Type 0) (moment : D 
   opened_as_another_store : (devices : List D) (w : WorldView D) → IsOpenedOver state honest moment left_since 7 1 devices (record w { store = 8 }) → ⊥
   opened_as_another_store devices w opened = let is : 8 ≡ 7 = opened.store_is in omega (arith, is)
 
-  -- where no step was taken nothing was told
+  -- if no step was taken nothing was told
   told_without_a_step : (old new : WorldView D) (e : Event) (events : List Event) → TookAll state honest moment left_since old 0 [] (e ∷ events) new → ⊥
   told_without_a_step old new e events took = not_empty took.0
 

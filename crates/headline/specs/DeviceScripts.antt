@@ -12,7 +12,7 @@ use Rattle.records.specs.declared.record.Record.{Record}
 use Rattle.stores.specs.Stores.{NamesHorizon, StandsOver, Store, stops}
 use Rattle.headline.specs.Shown.{Shows}
 
--- A store that shows the world behind the script, and stands for each moment that the store before it stands for. No horizon is named that was not, and a
+-- A store that shows the world after the script, and stands for each moment that the store before it stands for. No horizon is named that was not, and a
 -- stop leaves of each node nothing that it could not leave before.
 pub record StandsAsBefore {D : Type 0} (state : D → State) (honest : D → Type 0) (old : WorldView D) (s : Store D) (new : WorldView D) : Type 0 where
   pub later : Store D
@@ -26,7 +26,7 @@ pub record StandsAsBefore {D : Type 0} (state : D → State) (honest : D → Typ
 -- Given what it is to be set to fail, what a device holds and whether it is honest, how often a stop may have come at it, and what a stop since then may
 -- have left
 module _ {D : Type 0} (set : D → ℕ → Tear → Type 0) (state : D → State) (honest : D → Type 0) (moment : D → ℕ) (left_since : D → ℕ → List ℕ → Type 0) where
-  -- the script of one device of the node of this name is set, where the world has the node, and nothing else has changed
+  -- the script of one device of the node of this name is set, if the world has the node, and nothing else has changed
   pub record SetsScript (bank : Bank) (n : ℕ) (tear : Tear) (name : NodeName) (old new : WorldView D) : Type 0 where
     pub nodes : MatchOption (node_at old.nodes name) (new.nodes ≡ old.nodes) (λ was. IsSetIn set state honest moment left_since bank n tear old.nodes name was new.nodes)
     pub rest : new ≡ record old { nodes = new.nodes }

@@ -1,4 +1,4 @@
--- What the next process finds in the files of a store: what a stop left of its devices, and perhaps more behind it.
+-- What the next process finds in the files of a store: what a stop left of its devices, and perhaps more after it.
 use Rattle.std.specs.Prelude.{◌≡◌, ◌<◌, ◌⊎◌, ◌+◌, ◌*◌, ◌++◌, ℕ, List, length, slice_index_or}
 use Rattle.tuples.specs.declared.entry.WriteId.{WriteId}
 use Rattle.device.specs.Device.{State, left}
@@ -10,11 +10,11 @@ use Rattle.stores.specs.Stores.{IsToldOver, RestsOver}
 use Rattle.headline.specs.PastWrites.{IsPastOver}
 use Rattle.headline.specs.Promised.{devices_at}
 
--- A device that was left with this content finds it, or, where a closed gate ends its list, it with more bytes behind it, whichever these are.
+-- A device that was left with this content finds it, or, if a closed gate ends its list, it with more bytes after it, whichever these are.
 abbrev pub IsFoundIn : List ℕ → List ℕ → Type 0
 IsFoundIn content seen = (seen ≡ content) ⊎ ((bodies : List (List ℕ)) × (end : ℕ) × (more : List ℕ) × IsSpelled content bodies end × (seen ≡ content ++ more))
 
--- What stands behind counts for nothing: the list is that of the content, and the records of two banks are those of their contents.
+-- What follows counts for nothing: the list is that of the content, and the records of two banks are those of their contents.
 pub record CountsForNothing : Type 0 where
   pub list : (content seen : List ℕ) → IsFoundIn content seen → gated seen ≡ gated content
   pub records : (a b seen_a seen_b : List ℕ) → IsFoundIn a seen_a → IsFoundIn b seen_b → found seen_a seen_b ≡ found a b

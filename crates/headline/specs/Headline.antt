@@ -23,8 +23,8 @@ use Rattle.headline.specs.Told.{IsWholeStep, event_of, step_of}
 -- and number of shards
 module _ {D : Type 0} (state : D → State) (honest : D → Type 0) (moment : D → ℕ) (left_since : D → ℕ → List ℕ → Type 0) (store shards : ℕ) where
   -- A store was opened over devices that rested at a machine, and took these steps. The opening kept its promise, and at every moment of it a stop left what
-  -- means the log. The steps are a run, from the moment behind the opening to one for which a store stands that shows the world; and each of them kept its
-  -- promise, with every moment inside. Closed there, the devices rest again at the machine behind the run, and what was told stays so.
+  -- means the log. The steps are a run, from the moment after the opening to one for which a store stands that shows the world; and each of them kept its
+  -- promise, with every moment inside. Closed there, the devices rest again at the machine after the run, and what was told stays so.
   pub record Lives (old : NodeName → D × D) (m : Machine) (told : List WriteId) (steps : List Step) (events : List Event) (new : WorldView D) : Type 0 where
     pub first : Store D
     pub opened : Reopened state honest moment left_since store shards old m told first

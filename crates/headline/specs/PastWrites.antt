@@ -36,13 +36,13 @@ module _ {D : Type 0} (state : D → State) (honest : D → Type 0) (moment : D 
       → (ran : Ran state honest moment left_since store shards old now number (turn slot) events new) → flow_at slot now.running ≡ Some r → id_of r.holds ≡ Some id
       → ran.told ≡ refuses e ∷ [] → e ≢ Unsure → IsPast new ran.after id
 
-  -- and so is one that was cancelled, and had not decided, once it has left its slot
+  -- so is one that was cancelled, and had not decided, once it has left its slot
   abbrev pub CancelledWritesArePast : Type 0
   CancelledWritesArePast = (old new : Store D) (now : Moment) (number slot : ℕ) (events : List Event) (r : Running) (id : WriteId) → StandsOver state honest store shards old now
       → (ran : Ran state honest moment left_since store shards old now number (turn slot) events new) → flow_at slot now.running ≡ Some r → id_of r.holds ≡ Some id
       → r.is_cancelled ≡ true → r.decided ≡ None → flow_at slot ran.after.running ≡ None → IsPast new ran.after id
 
-  -- What is past stays so behind each step, the opening of a node again among them; and so behind a chain of the promises of any steps: their log does not
+  -- What is past stays so after each step, including the opening of a node again; and so after a chain of the promises of any steps: their log does not
   -- list it.
   abbrev pub PastWritesStay : Type 0
   PastWritesStay = (old new : Store D) (now : Moment) (number : ℕ) (step : Step) (events : List Event) (id : WriteId) → StandsOver state honest store shards old now

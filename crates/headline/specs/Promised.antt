@@ -17,14 +17,14 @@ use Rattle.turns.specs.Reopens.{Reopens}
 use Rattle.headline.specs.Shown.{Shows}
 use Rattle.headline.specs.Told.{IsWholeStep, all_told, event_of, step_of}
 
--- the two devices of each node: those of the coordinator, and then those of each shard, by rising number; of a shard that is not there any
+-- the two devices of each node: those of the coordinator, and then those of each shard, by rising number; for a shard that is not there, any two
 abbrev pub devices_at : {D : Type 0} → D → List D → NodeName → D × D
 devices_at any devices coordinator = (get_or devices 0 any, get_or devices 1 any)
 devices_at any devices (shard s) = (get_or devices (2 * (s + 1)) any, get_or devices (2 * (s + 1) + 1) any)
 
 -- Given what a device holds and whether it is honest, how often a stop may have come at it, and what a stop since then may have left
 module _ {D : Type 0} (state : D → State) (honest : D → Type 0) (moment : D → ℕ) (left_since : D → ℕ → List ℕ → Type 0) where
-  -- A store that keeps the promise of a step, whatever its number; and where the store before it stands, it shows the world behind the step.
+  -- A store that keeps the promise of a step, whatever its number; and if the store before it stands, it shows the world after the step.
   pub record Keeps (old : WorldView D) (s : Store D) (step : Step) (told : Option What) (new : WorldView D) : Type 0 where
     pub later : Store D
     pub shows : (now : Moment) → StandsOver state honest old.store old.shards s now → Shows new later
@@ -40,13 +40,13 @@ module _ {D : Type 0} (state : D → State) (honest : D → Type 0) (moment : D 
   abbrev pub StepsKeep : Type 0
   StepsKeep = (step : Step) → StepKeeps step
 
-  -- a store that shows the world behind a list of steps, and a chain of the promises of all of them
+  -- a store that shows the world after a list of steps, and a chain of the promises of all of them
   pub record KeepsAll (old : WorldView D) (s : Store D) (number : ℕ) (steps : List Step) (events : List Event) (new : WorldView D) : Type 0 where
     pub later : Store D
     pub shows : Shows new later
     pub runs : RunsAll state honest moment left_since old.store old.shards s number (map step_of steps) (map event_of events) later
 
-  -- and so does a list of steps, from a store that stands
+  -- so does a list of steps, from a store that stands
   abbrev pub RunsKeep : Type 0
   RunsKeep = (old new : WorldView D) (s : Store D) (number : ℕ) (steps : List Step) (events : List Event) → Shows old s → All IsWholeStep steps
       → TookAll state honest moment left_since old number steps events new → (now : Moment) → StandsOver state honest old.store old.shards s now → KeepsAll old s number steps events new

@@ -23,8 +23,8 @@ abbrev pub named : NodeName → names.NodeName
 named coordinator = called.Coordinator
 named (shard s) = called.Shard s
 
--- A flow of a store of so many shards is shown so, between two of its calls: a write by what it holds, and any other by what it was asked, in range, as well.
--- Which userset a check was asked about, the store alone says.
+-- A flow of a store of this many shards is shown so, between two of its calls: a write by what it holds, and any other by what it was asked, in range, as
+-- well. Only the store says which userset a check was asked about.
 abbrev pub IsShownFlow : ℕ → Flow → FlowView → Type 0
 IsShownFlow shards (Write w) view = (view ≡ writes.shown w.flow.seen w.is_cancelled) × (w.flow.shards ≡ shards) × (w.flow.seen.awaited ≡ None) × (w.flow.seen.ended ≡ None)
 IsShownFlow shards (Read v) view = (view ≡ shown_answer (read_of v) (reading v.seen.holds)) × (v.shards ≡ shards) × IsAsked shards (read_of v)
@@ -32,15 +32,15 @@ IsShownFlow shards (Check v) view = (x : Userset) × (view ≡ shown_answer (che
 IsShownFlow shards (Watch v) view = (view ≡ shown_answer (asked_of v) (watching v.seen.holds)) × IsAsked shards (asked_of v)
 IsShownFlow shards (Care v) view = (view ≡ shows v) × IsCareThere shards v
 
--- and so is what is in a slot
+-- so is what is in a slot
 abbrev pub IsShownSlot : ℕ → Option Flow → Option FlowView → Type 0
 IsShownSlot shards None None = Unit {0}
 IsShownSlot shards None (Some view) = ⊥
 IsShownSlot shards (Some flow) None = ⊥
 IsShownSlot shards (Some flow) (Some view) = IsShownFlow shards flow view
 
--- The store shows the world: each node under its name, and each flow in its slot. What lies in the memory of a coordinator whose opening was refused, the
--- store alone says.
+-- The store shows the world: each node under its name, and each flow in its slot. Only the store says what lies in the memory of a coordinator whose
+-- opening was refused.
 pub record Shows {D : Type 0} (w : WorldView D) (s : Store D) : Type 0 where
   pub some : 1 ≤ w.shards
   pub count : length w.nodes ≡ w.shards + 1

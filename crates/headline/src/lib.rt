@@ -1,5 +1,5 @@
-//! The headline: whatever a store's two calls, the opening of its devices and the run of a list of steps, do by their contracts, is an opening and a run as
-//! they are promised, over one list of whole writes.
+//! The headline: by their contracts, a store's two calls, the opening of its devices and the run of a list of steps, are an opening and a run as promised,
+//! over one list of whole writes.
 //!
 //! Keeps: nothing at run time; each law is the contract of a function with an empty body.
 //! Callers rely on: what `cluster`'s `reopen` and `run` promise of themselves, in the words of nodes and flows, is what `turns` promises of a store.

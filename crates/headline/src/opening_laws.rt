@@ -18,7 +18,7 @@ pub fn openings_keep<D: Device>()
     ensures { OpeningsKeep D.state D.honest D.moment D.left_since }
 {}
 
-/// An opening that ends for lack of memory gives its devices back untouched, and so keeps the promise of one that does.
+/// An opening that ends for lack of memory returns its devices untouched, and so keeps the promise of one that does.
 pub fn refused_openings_hand_back<D: Device>()
     ensures { (store shards : ℕ) (devices : NodeAt → D × D) → HandsBack D.state D.honest D.moment D.left_since store shards devices devices }
 {}

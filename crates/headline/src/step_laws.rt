@@ -19,13 +19,13 @@ pub fn turns_keep<D: Device>()
     ensures { (slot : ℕ) → StepKeeps D.state D.honest D.moment D.left_since (Turn slot) }
 {}
 
-/// The flow in a slot is cancelled: a write goes out, or on to its end, and any other is gone; in an empty slot nothing is.
+/// The flow in a slot is cancelled: a write goes out, or on to its end, and any other is gone; an empty slot stays empty.
 pub fn cancels_keep<D: Device>()
     ensures { (slot : ℕ) → StepKeeps D.state D.honest D.moment D.left_since (Cancel slot) }
 {}
 
-/// The script of one device is set, which is no step: a store that shows the world before leads to one that shows the world behind, stands for whatever
-/// the first stands for, and names no horizon that the first does not.
+/// The script of one device is set, which is not a step: a store that shows the world before leads to one that shows the world after, stands for
+/// whatever the first stands for, and names no horizon that the first does not.
 pub fn scripts_keep<D: Device>()
     ensures { ScriptsKeep D.set_to_fail D.state D.honest D.moment D.left_since }
 {}

@@ -1,4 +1,4 @@
--- Writes stay apart where a free one is added, and where some are taken out.
+-- Writes stay apart if a free one is added, and if some are taken out.
 use Rattle.std.proofs.Common.{◌≡◌, ◌⊎◌, ⊎_elim, ℕ, zero, suc, Bool, true, false, not, List, [], ◌∷◌, Some, None, cond, ◌||◌, filter, refl, sym, ◌∙◌, ap, subst, arith, All, slice_get, ◌↔◌}
 use Rattle.std.specs.List.{list_any}
 use Rattle.std.proofs.lemmas.Bool.{cases_Bool, not-true, not_from_false, or_cases}
@@ -115,7 +115,7 @@ held_by (u ∷ ws) (suc j) v t at has = ⊎_elim
     (λ no. ap (λ (b : Bool). cond b true (is_held t ws)) no ∙ held_by ws j v t at has)
     (cases_Bool (has_tuple t (named u)))
 
--- a tuple of the list is free where all of it are
+-- a tuple of the list is free if all of it are
 pub free_one : (ws : List Entry) (ts : List Tuple) (t : Tuple) → All (λ (u : Tuple). is_held u ws ≡ false) ts → has_tuple t ts ≡ true → is_held t ws ≡ false
 free_one ws [] t free has = absurd cc
 free_one ws (u ∷ ts) t free has = ⊎_elim
@@ -175,7 +175,7 @@ not_free ws w some free =
     let held : one_held ws (named w) ≡ true = one_of_two ws w ∙ ap (λ (b : Bool). b || one_held ws (conditioned w.conditions)) some in
     absurd cc
 
--- a write whose id is new, and whose changes are free, is free where its conditions are
+-- a write whose id is new, and whose changes are free, is free if its conditions are
 pub free_decides : (ws : List Entry) (w : Entry) → find_in_doubt w.id ws ≡ None → list_any (λ (t : Tuple). is_held t ws) (changed w.changes) ≡ false → (not (list_any (λ (t : Tuple). is_held t ws) (conditioned w.conditions)) ≡ true) ↔ IsFree ws w
 free_decides ws w new changes =
     let same : one_held ws (named w) ≡ one_held ws (conditioned w.conditions) = one_of_two ws w ∙ ap (λ (b : Bool). b || one_held ws (conditioned w.conditions)) changes in (

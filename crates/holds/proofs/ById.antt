@@ -24,7 +24,7 @@ Kept = List (WriteId × Entry)
 abbrev pub AreOwn : Kept → Type 0
 AreOwn = AllByRecursion (λ (e : WriteId × Entry). e.0 ≡ e.1.id)
 
--- the key is equal to the id where the write's own is
+-- the key is equal to the id if the write's own is
 at_own : (id k : WriteId) (w : Entry) → k ≡ w.id → is_at (id_cmp id) k ≡ same_id w.id id
 at_own id k w own = sym (id_ties id k) ∙ id_equivalence.symm id k ∙ ap (λ (i : WriteId). same_id i id) own
 
@@ -102,7 +102,7 @@ pub from_copied : (r : Option (Bor Entry)) (o : Option Entry) → option_copied 
 from_copied None o is = sym is
 from_copied (Some w) o is = sym is
 
--- a write that was held and is let go again leaves the others
+-- a write that was held and is released again leaves the others
 pub freed : (n m h f : Bool) → n ≡ (not h && m) → m ≡ (h || f) → (h ≡ true → f ≡ false) → n ≡ f
 freed n m true f is was free = is ∙ sym (free refl)
 freed n m false f is was free = is ∙ was

@@ -60,7 +60,7 @@ module _ {X : Type 0} (tuple : X → Tuple) where
 
 -- ---- the writes that hold them
 
--- what is not found is not the first, and not found behind it
+-- what is not found is not the first, and not found after it
 pub none_parts : (id : WriteId) (v : Entry) (ws : List Entry) → find_in_doubt id (v ∷ ws) ≡ None → (same_id v.id id ≡ false) × (find_in_doubt id ws ≡ None)
 none_parts id v ws none = elim (cases_Bool (same_id v.id id)) [
   | inl is ↦ absurd (let some : Some v ≡ None = ap (λ (b : Bool). cond b (Some v) (find_in_doubt id ws)) (sym is) ∙ none in cc)
@@ -110,7 +110,7 @@ any_same f g same (t ∷ ts) = ap (λ (b : Bool). b || list_any f ts) (same t) �
 
 -- ---- a write that is taken out
 
--- where a tuple that is held is named
+-- where a held tuple is named
 held_at : (t : Tuple) (ws : List Entry) → is_held t ws ≡ true → (j : ℕ) × (w : Entry) × (slice_get ws j ≡ Some w) × (has_tuple t (named w) ≡ true)
 held_at t [] is = absurd cc
 held_at t (v ∷ ws) is = elim (cases_Bool (has_tuple t (named v))) [
@@ -131,7 +131,7 @@ apart_rest v ws apart = record {
   ids = λ i j u w at_u at_w is. let h : suc i ≡ suc j = apart.ids (suc i) (suc j) u w at_u at_w is in omega (arith, h);
 }
 
--- what the first write names no other one does
+-- no other write names what the first one names
 first_alone : (v : Entry) (ws : List Entry) (t : Tuple) → AreApart (v ∷ ws) → has_tuple t (named v) ≡ true → is_held t ws ≡ false
 first_alone v ws t apart has = elim (cases_Bool (is_held t ws)) [
   | inl is ↦ let other = held_at t ws is in absurd (let h : suc other.0 ≡ 0 = apart.tuples (suc other.0) 0 other.1 v other.2 refl t other.3 has in omega (arith, h))
@@ -183,7 +183,7 @@ pub let_go_again : (n m o h f : Bool) → n ≡ (not h && m) → (h ≡ false �
 let_go_again n m o true f is others same free = is ∙ sym (free refl)
 let_go_again n m o false f is others same free = is ∙ others refl ∙ same
 
--- what an `Ok` says, where it is no error
+-- what an `Ok` says, if it is not an error
 pub from_ok : {A E P : Type 0} (r : Result A E) → is_err r ≡ false → OnOk r P → P
 from_ok (Ok a) no_error p = p
 from_ok (Err e) no_error p = absurd cc

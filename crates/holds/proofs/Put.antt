@@ -18,7 +18,7 @@ greater_is_other w v greater same =
     let no : same_id w.id v.id ≡ false = id_ties w.id v.id ∙ ap is_eq greater in
     cc
 
--- before the first of them, in its place, or behind it
+-- before the first of them, in its place, or after it
 pub put_cases : (P : List Entry → Type 0) (w v : Entry) (ws : List Entry)
     → (id_cmp w.id v.id ≡ Less → P (w ∷ v ∷ ws)) → (w.id ≡ v.id → P (w ∷ ws)) → (id_cmp w.id v.id ≡ Greater → v.id ≢ w.id → P (v ∷ put w ws)) → P (put w (v ∷ ws))
 put_cases P w v ws before instead behind = by_order (id_cmp w.id v.id) refl
@@ -30,7 +30,7 @@ put_cases P w v ws before instead behind = by_order (id_cmp w.id v.id) refl
 
 -- ---- what is found
 
--- of another id it is what was found before
+-- for another id it is what was found before
 pub find_put : (id : WriteId) (ws : List Entry) (w : Entry) → w.id ≢ id → find_in_doubt id (put w ws) ≡ find_in_doubt id ws
 find_put id [] w ne = ap (λ (b : Bool). cond b (Some w) None) (same_id_other w.id id ne)
 find_put id (v ∷ ws) w ne = put_cases (λ l. find_in_doubt id l ≡ find_in_doubt id (v ∷ ws)) w v ws
@@ -40,7 +40,7 @@ find_put id (v ∷ ws) w ne = put_cases (λ l. find_in_doubt id l ≡ find_in_do
     ∙ sym (ap (λ (b : Bool). cond b (Some v) (find_in_doubt id ws)) (same_id_other v.id id (λ is. ne (same ∙ is)))))
     (λ greater other. ap (λ (o : Option Entry). cond (same_id v.id id) (Some v) o) (find_put id ws w ne))
 
--- of its own id it is found
+-- for its own id it is found
 pub find_put_same : (ws : List Entry) (w : Entry) → find_in_doubt w.id (put w ws) ≡ Some w
 find_put_same [] w = ap (λ (b : Bool). cond b (Some w) None) (same_id_refl w.id)
 find_put_same (v ∷ ws) w = put_cases (λ l. find_in_doubt w.id l ≡ Some w) w v ws

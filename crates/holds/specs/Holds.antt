@@ -17,7 +17,7 @@ pub record AreApart (ws : List Entry) : Type 0 where
   pub tuples : (i j : ℕ) (v w : Entry) → slice_get ws i ≡ Some v → slice_get ws j ≡ Some w → (t : Tuple) → has_tuple t (named v) ≡ true → has_tuple t (named w) ≡ true → i ≡ j
   pub ids : AreNew ws
 
--- no write that is held has the id of this one, or names one of its tuples
+-- no held write has the id of this one, or names one of its tuples
 pub record IsFree (ws : List Entry) (w : Entry) : Type 0 where
   pub new : find_in_doubt w.id ws ≡ None
   pub tuples : All (λ (t : Tuple). is_held t ws ≡ false) (named w)
@@ -32,7 +32,7 @@ AreAscendingIds [] = Unit {0}
 AreAscendingIds (i ∷ []) = Unit {0}
 AreAscendingIds (i ∷ j ∷ more) = ((i.epoch < j.epoch) ⊎ ((i.epoch ≡ j.epoch) × (i.number < j.number))) × AreAscendingIds (j ∷ more)
 
--- the tuple is one of those of the set
+-- the tuple is in the set
 abbrev pub is_in : List Tuple → Tuple → Bool
 is_in held t = list_any (λ (u : Tuple). is_eq (ghosts.cmp t u)) held
 

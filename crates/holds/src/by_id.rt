@@ -1,4 +1,4 @@
-// Writes of which each is found by its id, kept in the order of ids.
+// Writes kept in the order of ids, each found by its id.
 ghost use Rattle.std.specs.Prelude.{◌≡◌, ◌++◌, [], None, Some, length, IfOk, IfErr, OnOk, MatchOption};
 ghost use Rattle.std.specs.BTreeMap.{keys};
 ghost use Rattle.holds.specs.Holds.{AreAscendingIds, ids};
@@ -10,7 +10,7 @@ use std::collections::btree_map::Values;
 use std::marker::Model;
 use tuples::{Entry, WriteId};
 
-/// Writes of which no two have one id, which contracts see as their list, ascending by id.
+/// Writes with distinct ids; contracts see them as their list, ascending by id.
 #[derive(Drop)]
 pub(crate) struct ById {
     writes: BTreeMap<WriteId, Entry>,
@@ -30,7 +30,7 @@ impl Model for ById {
 }
 
 impl ById {
-    /// No writes, which takes no memory.
+    /// No writes; allocates nothing.
     pub fn new(alloc: Global) -> Self
         ensures { result ≡ [] }
     {
@@ -54,7 +54,7 @@ impl ById {
         self.writes.get(&id)
     }
 
-    /// Puts one write more in its place, instead of one with its id; it comes back where memory is refused.
+    /// Puts one more write in its place, instead of one with its id; the new one comes back if memory is refused.
     pub fn put(&mut self, write: Entry) -> Result<(), Entry>
         ensures ok { OnOk result (self.new ≡ put write self.old) }
         ensures err { IfErr result (λ w. (w ≡ write) × (self.new ≡ self.old)) }
@@ -68,7 +68,7 @@ impl ById {
         }
     }
 
-    /// Takes out the write with this id.
+    /// Removes the write with this id.
     pub fn take_out(&mut self, id: WriteId) -> Option<Entry>
         ensures found { result ≡ find_in_doubt id self.old }
         ensures left { self.new ≡ without id self.old }

@@ -35,7 +35,7 @@ pub(crate) fn holds_condition(held: &BTreeSet<Tuple>, conditions: &[Condition]) 
     false
 }
 
-/// Holds the tuples of a write. Where memory is refused, some of them may be held.
+/// Holds the tuples of a write. If memory is refused, some of them may be held.
 pub(crate) fn hold(held: &mut BTreeSet<Tuple>, write: &Entry) -> Result<(), AllocError>
     ensures ok { OnOk result ((t : AnyTuple) → is_in held.new.keys t ≡ (has_tuple t (named write.now) || is_in held.old.keys t)) }
     ensures others { (t : AnyTuple) → has_tuple t (named write.now) ≡ false → is_in held.new.keys t ≡ is_in held.old.keys t }
@@ -78,7 +78,7 @@ fn copy(tuple: &Tuple) -> Result<Tuple, AllocError>
     tuple.clone()
 }
 
-/// Holds the tuples of a write no longer, which takes no memory.
+/// Releases the tuples of a write; allocates nothing.
 pub(crate) fn let_go(held: &mut BTreeSet<Tuple>, write: &Entry)
     ensures { (t : AnyTuple) → is_in held.new.keys t ≡ (not (has_tuple t (named write.now)) && is_in held.old.keys t) }
 {

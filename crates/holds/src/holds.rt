@@ -14,7 +14,7 @@ use std::collections::btree_map::Values;
 use std::marker::Model;
 use tuples::{Entry, Refusal, Tuple, WriteId};
 
-/// Writes in doubt, each of which holds the tuples of its changes and conditions. Contracts see them as their list,
+/// Writes in doubt, each holding the tuples of its changes and conditions. Contracts see them as their list,
 /// ascending by id.
 #[derive(Drop)]
 pub struct Holds {
@@ -35,7 +35,7 @@ impl Model for Holds {
 }
 
 impl Holds {
-    /// No writes, which takes no memory.
+    /// No writes; allocates nothing.
     pub fn new(alloc: Global) -> Self
         ensures { result ≡ [] }
     {
@@ -45,14 +45,14 @@ impl Holds {
         }
     }
 
-    /// Whether no write that is held has the id of this one, or names one of its tuples.
+    /// Whether no held write has the id of this one, or names one of its tuples.
     pub fn is_free(&self, write: &Entry) -> bool
         ensures { IsTrue result ↔ IsFree self.now write.now }
     {
         is_free(&self.writes, &self.held, write)
     }
 
-    /// Holds all tuples of a write, or none of them: `Busy` where it is not free, `NoMemory`.
+    /// Holds all tuples of a write, or none: `Busy` if it is not free, `NoMemory`.
     pub fn take(&mut self, write: Entry) -> Result<(), Refusal>
         ensures ok { OnOk result (self.new ≡ put write self.old) }
         ensures free { OnOk result (IsFree self.old write) }
@@ -73,7 +73,7 @@ impl Holds {
         }
     }
 
-    /// Holds the write with this id no longer, and gives it back; it takes no memory.
+    /// Releases the write with this id, and returns it; allocates nothing.
     pub fn release(&mut self, id: WriteId) -> Option<Entry>
         ensures found { result ≡ find_in_doubt id self.old }
         ensures left { self.new ≡ without id self.old }
@@ -87,7 +87,7 @@ impl Holds {
         Some(write)
     }
 
-    /// Holds the writes of these placed_ids no longer, which takes no memory.
+    /// Releases the writes of these placed ids; allocates nothing.
     pub fn release_placed_ids(&mut self, placed_ids: &[PlacedId])
         ensures { self.new ≡ without_placed_ids placed_ids.now self.old }
     {
@@ -110,7 +110,7 @@ impl Holds {
         self.held.contains(tuple)
     }
 
-    /// How many writes there are, of which no two name one tuple or have one id.
+    /// How many writes there are; no two of them name one tuple or have one id.
     pub fn len(&self) -> usize
         ensures len { result ≡ length self.now }
         ensures apart { AreApart self.now }

@@ -4,7 +4,7 @@ ghost use Rattle.tuples.specs.Log.{same_id};
 
 use tuples::WriteId;
 
-/// Whether they are one id.
+/// Whether they are the same id.
 pub fn is_same(a: WriteId, b: WriteId) -> bool
     ensures { result ≡ same_id a b }
 {

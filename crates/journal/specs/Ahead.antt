@@ -1,11 +1,11 @@
 -- A checkpoint that is written ahead of the list of the bank that is not current.
-use Rattle.std.specs.Prelude.{◌≡◌, ◌⊎◌, ℕ, List, [], ◌∷◌, ◌++◌, Some}
+use Rattle.std.specs.Prelude.{◌≡◌, ◌⊎◌, ◌≤◌, ◌+◌, ℕ, List, [], ◌∷◌, ◌++◌, Some, length}
 use Rattle.records.specs.declared.mark.Mark.TheVariants.{Begins, Ends}
 use Rattle.records.specs.declared.record.Record.{Record}
 use Rattle.records.specs.declared.record.Record.TheVariants.{Checkpoint}
 use Rattle.device.specs.Device.{HasFailed, LeavesOnly, State}
-use Rattle.gated.specs.Gated.{HasList, IsAhead, gated}
-use Rattle.journal.specs.Records.{BankLacksRoom, HasOldOrNew, LacksRoom, View, bank_records, batches, found}
+use Rattle.gated.specs.Gated.{HasList, IsAhead, gated, record_head}
+use Rattle.journal.specs.Records.{BankLacksRoom, HasOldOrNew, LacksRoom, View, bank_records, batch_size, batches, found}
 
 -- the checkpoint of this generation with these records
 abbrev pub checkpoint_of : ℕ → List Record → List Record
@@ -38,6 +38,10 @@ pub record LacksRoomAhead {D : Type 0} (state : D → State) (honest : D → Typ
 abbrev pub HasPointCause : {D : Type 0} → (D → State) → (D → Type 0) → View D → View D → Type 0
 HasPointCause state honest old new = HasFailed (state old.a) (state new.a) ⊎ (HasFailed (state old.b) (state new.b)
     ⊎ (BankLacksRoom state honest old.a old.b old.end old.staged ⊎ (LacksRoomAhead state honest new.a ⊎ LacksRoomAhead state honest new.b)))
+
+-- a list ends where it did, or, where some records were staged, behind a batch of them
+abbrev pub StaysOrGains : ℕ → List Record → ℕ → Type 0
+StaysOrGains old staged new = (new ≡ old) ⊎ ((1 ≤ length staged) × (new ≡ old + batch_size staged + record_head))
 
 -- the list, the empty one, or the records
 abbrev pub IsOldNoneOr : List (List ℕ) → List Record → List ℕ → Type 0

@@ -1,8 +1,8 @@
 // The first checkpoint of devices that were empty: that it begins is durable before anything of it is there.
-ghost use Rattle.std.specs.Prelude.{◌≡◌, ◌⊎◌, ◌↔◌, ◌≤◌, ◌<◌, ◌∷◌, [], List, ℕ, IfErr, IfOk, Err, IsErrOf, MatchResult, OnErr, OnOk, false, map, true};
+ghost use Rattle.std.specs.Prelude.{◌≡◌, ◌⊎◌, ◌↔◌, ◌≤◌, ◌<◌, ◌∷◌, [], List, ℕ, IfErr, IfOk, Err, IsErrOf, MatchResult, OnErr, OnOk, Some, false, map, true};
 ghost use Rattle.refusal.specs.Refusals.{IsOneOf};
 ghost use Rattle.device.specs.Device.{HasFailed, LeavesOnly};
-ghost use Rattle.gated.specs.Gated.{HasList};
+ghost use Rattle.gated.specs.Gated.{HasList, gated};
 ghost use Rattle.journal.specs.Ahead.{LacksRoomAhead, checkpoint_of};
 ghost use Rattle.journal.specs.Beginnings.{HasBegun, HasBeginsOr, HasNone, HasNoneOrBegins, HasNoneOrNeverOpens, NeverOpens, NeverOpensOr, begins};
 ghost use Rattle.journal.specs.Records.{HasRecords, LeavesEach};
@@ -145,6 +145,9 @@ impl<D: Device> Begun<D> {
             (λ e. LeavesOnly D.moment D.left_since a e.a HasNoneOrBegins × LeavesOnly D.moment D.left_since b e.b HasNone) }
         ensures open { IfOk result (λ r. r.is_open ≡ true) }
         ensures err { IfErr result (λ e. IsOneOf e.refusal (Refusal.Down ∷ Refusal.NoMemory ∷ Refusal.Damaged ∷ [])) }
+
+        // Not where both read as devices without a record, as those without a byte do.
+        ensures damaged { D.honest a → D.honest b → IfErr result (λ e. e.refusal ≡ Refusal.Damaged → gated (D.state a).seen ≡ Some [] → gated (D.state b).seen ≡ Some [] → ⊥) }
         ensures counts { MatchResult result (λ r. ((D.state a).failures ≤ (D.state r.a).failures) × ((D.state b).failures ≤ (D.state r.b).failures))
             (λ e. ((D.state a).failures ≤ (D.state e.a).failures) × ((D.state b).failures ≤ (D.state e.b).failures)) }
     {

@@ -2,7 +2,7 @@
 ghost use Rattle.std.specs.Prelude.{◌≡◌, ◌⊎◌, ◌↔◌, ◌≤◌, ◌<◌, ◌+◌, ◌++◌, ◌∷◌, [], List, ℕ, Some, OnOk, OnErr, IfOk, IfErr, IsErrOf, MatchOption, All, Contains, Err, length, not, true, false};
 ghost use Rattle.device.specs.Device.{HasFailed, LeavesOnly};
 ghost use Rattle.gated.specs.Gated.{HasList, IsAhead};
-ghost use Rattle.journal.specs.Ahead.{HasOldOrNewOr, IsOldNoneOr, IsPut, IsWriting, KeepsLists, HasPointCause, LacksRoomAhead, checkpoint_of};
+ghost use Rattle.journal.specs.Ahead.{HasOldOrNewOr, IsOldNoneOr, IsPut, IsWriting, KeepsLists, HasPointCause, LacksRoomAhead, StaysOrGains, checkpoint_of};
 ghost use Rattle.gated.specs.Gated.{record_head};
 ghost use Rattle.journal.specs.Records.{BankLacksRoom, HasNoRoom, HasRecords, LacksRoom, bank_records, batch_size, durable_of, LeavesEach};
 ghost use Rattle.journal.specs.Sources.{record_of};
@@ -234,6 +234,7 @@ fn flush_bank<D: Device>(log: &mut GatedLog<D>, staged: &mut Batch) -> Result<()
     ensures counts { (D.state log.old.device).failures ≤ (D.state log.new.device).failures }
     ensures none { OnOk result ((D.state log.new.device).failures ≡ (D.state log.old.device).failures) }
     ensures end { OnOk result ((staged.old ≡ []) ⊎ (log.new.end ≡ log.old.end + batch_size staged.old + record_head)) }
+    ensures moved { StaysOrGains log.old.end staged.old log.new.end }
 {
     if staged.len() == 0 {
         return Ok(());
@@ -266,6 +267,7 @@ fn replace<'a, D: Device, S: Source<'a>>(
     ensures err { IfErr result (λ e. e ≡ Refusal.Down) }
     ensures cause { OnErr result (HasFailed (D.state current.old.device) (D.state current.new.device) ⊎ (HasFailed (D.state other.old.device) (D.state other.new.device)
         ⊎ (LacksRoom D.state D.honest current.old.device current.old.end staged.old ⊎ LacksRoomAhead D.state D.honest other.new.device))) }
+    ensures moved { StaysOrGains current.old.end staged.old current.new.end }
     ensures counts { ((D.state current.old.device).failures ≤ (D.state current.new.device).failures) × ((D.state other.old.device).failures ≤ (D.state other.new.device).failures) }
     ensures none { OnOk result (((D.state current.new.device).failures ≡ (D.state current.old.device).failures) × ((D.state other.new.device).failures ≡ (D.state other.old.device).failures)) }
 {
@@ -302,6 +304,7 @@ pub(crate) fn replace_other<'a, D: Device, S: Source<'a>>(
     ensures err { IfErr result (λ e. e ≡ Refusal.Down) }
     ensures cause { OnErr result (HasFailed (D.state a.old.device) (D.state a.new.device) ⊎ (HasFailed (D.state b.old.device) (D.state b.new.device)
         ⊎ (BankLacksRoom D.state D.honest a.old.device b.old.device (bank_of is_b a.old.end b.old.end) staged.old ⊎ (LacksRoomAhead D.state D.honest a.new.device ⊎ LacksRoomAhead D.state D.honest b.new.device)))) }
+    ensures moved { StaysOrGains (bank_of is_b a.old.end b.old.end) staged.old (bank_of is_b a.new.end b.new.end) }
     ensures counts { ((D.state a.old.device).failures ≤ (D.state a.new.device).failures) × ((D.state b.old.device).failures ≤ (D.state b.new.device).failures) }
     ensures none { OnOk result (((D.state a.new.device).failures ≡ (D.state a.old.device).failures) × ((D.state b.new.device).failures ≡ (D.state b.old.device).failures)) }
 {
@@ -343,6 +346,9 @@ impl<D: Device> Journal<D> {
         ensures cause { IsErrOf result Refusal.Down → (self.old.is_down ≡ true) ⊎ HasPointCause D.state D.honest self.old self.new }
         ensures counts { ((D.state self.old.a).failures ≤ (D.state self.new.a).failures) × ((D.state self.old.b).failures ≤ (D.state self.new.b).failures) }
         ensures none { IsErrOf result Refusal.Down ⊎ (((D.state self.new.a).failures ≡ (D.state self.old.a).failures) × ((D.state self.new.b).failures ≡ (D.state self.old.b).failures)) }
+
+        // Where it is refused, the list of the current bank ends where it did, or, after `Down`, behind what was staged.
+        ensures moved { OnErr result (StaysOrGains self.old.end self.old.staged self.new.end) }
 
         // Where a device failed before, no call is made, and behind the last generation none either.
         ensures quiet { self.old.is_down ≡ true → (result ≡ Err Refusal.Down) × (self.new ≡ self.old) }

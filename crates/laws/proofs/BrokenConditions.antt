@@ -1,4 +1,4 @@
--- A condition that is met after the whole log is met by the rows of its tuple's shard, where no write in doubt names the tuple.
+-- A condition that is met after the whole log is met by the rows of its tuple's shard, if no write in doubt names the tuple.
 use Rattle.std.proofs.Common.{◌≡◌, ⊎_elim, ℕ, Bool, true, ◌||◌, ◌==◌, ◌≤◌, List, [], ◌∷◌, take, filter, sym, ◌∙◌, ap, subst, arith, length, nat_lt, ◌&&◌, not}
 use Rattle.std.proofs.lemmas.Bool.{cases_Bool, eq-eqb, le-leb, leb-true}
 use Rattle.laws.proofs.Words.{Absent, Entry, Exists, NotAfter, ShardMeans, ShardState, Tuple, Version, Want, changes_from, is_at, is_touch, last_alike, meets_want, of_shard, shard_of, superseded, tuple_eq, tuple_of}

@@ -88,7 +88,7 @@ filter_twice p q r same (x ∷ xs) = ⊎_elim
     (λ no. rw (same x) (rw no (filter_twice p q r same xs)))
     (cases_Bool (q x))
 
--- the two tests, one after the other: a and b say that the place is above the lower and the higher horizon, x, y and z that the version is
+-- the two tests, one after another: a and b say that the place is above the lower and the higher horizon, x, y and z that the version is
 -- followed below the lower, below the higher, and below the higher among what is left
 both_tests : (a b t x y z : Bool) → (b ≡ true → a ≡ true) → (a ≡ true → x ≡ false) → (y ≡ true → (x ≡ true) ⊎ (z ≡ true)) → (x ≡ true → y ≡ true) → (z ≡ true → y ≡ true)
     → (b || (t && not y)) ≡ ((a || (t && not x)) && (b || (t && not z)))
@@ -138,7 +138,7 @@ filter_swapped p q r same (x ∷ xs) = ⊎_elim
     (cases_Bool (r x)))
     (cases_Bool (q x))
 
--- versions of a shard's tuples are followed by versions of the shard's alone
+-- only versions of the shard follow versions of the shard's tuples
 followed_own : (shards s h : ℕ) (v : Version) → (shard_of shards (tuple_of v.change).object == s) ≡ true → (rows : List Version) → superseded h v (of_shard shards s rows) ≡ superseded h v rows
 followed_own shards s h v own [] = refl
 followed_own shards s h v own (u ∷ rows) = ⊎_elim

@@ -1,4 +1,4 @@
--- One record more at the coordinator.
+-- One more record at the coordinator.
 use Rattle.std.proofs.Common.{◌≡◌, ⊎_elim, ℕ, ◌+◌, ◌<◌, ◌≤◌, List, [], ◌∷◌, ◌++◌, length, take, sym, ◌∙◌, ap, subst, arith}
 use Rattle.std.proofs.lemmas.List.{drop-append-le, length-take-le, length_push, take-append-le, take_all}
 use Rattle.laws.proofs.Words.{CoordinatorMeans, CoordinatorState, Decision, Entry, Epoch, Horizon, IsCoordinatorImage, IsMeaning, Means, Record, coordinator_node, coordinator_state, end_of, shard_state}

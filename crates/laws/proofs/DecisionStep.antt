@@ -1,4 +1,4 @@
--- One write more is listed, whose part each content holds.
+-- One more write is listed, whose part each content holds.
 use Rattle.std.proofs.Common.{◌≡◌, ⊎_elim, ℕ, ◌≤◌, List, [], ◌∷◌, ◌++◌, length, refl, sym, ap, subst, arith}
 use Rattle.std.proofs.lemmas.List.{take-append-le, length_push}
 use Rattle.laws.proofs.Words.{Entry, ShardMeans, ShardState, alike_same, alike_trans, find_in_doubt, of_shard}

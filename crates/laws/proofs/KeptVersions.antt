@@ -46,12 +46,12 @@ abbrev walk : Tuple → Bool → (Version → Bool) → List Version → Bool
 walk t b test [] = b
 walk t b test (v ∷ rows) = walk t (if test v then (if is_of t v then is_touch v.change else b) else b) test rows
 
--- one change more
+-- one more change
 one_more : (t : Tuple) (b : Bool) (c : Change) (changes : List Change) → there_after t b (c ∷ changes) ≡ there_after t (if tuple_eq t (tuple_of c) then is_touch c else b) changes
 one_more t b (Touch u) changes = refl
 one_more t b (Delete u) changes = refl
 
--- the changes of the versions that two tests take, one test after the other, or both at once
+-- the changes of the versions that two tests take, one test after another, or both at once
 walked : (t : Tuple) (b : Bool) (test more : Version → Bool) (rows : List Version) → there_after t b (changes_of (filter more (filter test rows))) ≡ walk t b (λ v. test v && more v) rows
 walked t b test more [] = refl
 walked t b test more (v ∷ rows) = by_test (λ x. walked t x test more rows) (test v) (more v) refl refl
@@ -97,7 +97,7 @@ none_low h n t (u ∷ rows) le above = by_own (is_of t u) refl (none_low h n t r
     by_own true is rest = rw (is, lt-leb u.place h (let lt = above.0 is in omega (arith, lt)), rest) refl
     by_own false is rest = rw (is, rest) refl
 
--- one version more before them follows none of them
+-- one more version before them follows none of them
 free_on : (h : ℕ) (t : Tuple) (before : List Version) (v : Version) (rows : List Version) → (is_of t v ≡ true → Above t v.place rows) → Free h t before rows → Free h t (before ++ v ∷ []) rows
 free_on h t before v [] above free = tt
 free_on h t before v (u ∷ rows) above free = (λ own. superseded-append h u before (v ∷ []) ∙ rw (free.0 own) (by_own own (is_of t v) refl), free_on h t before v rows (λ own. (above own).1) free.1)
@@ -121,7 +121,7 @@ if_same false x = refl
 
 -- Given a horizon, a place at or above it, and a tuple
 module _ (h s : ℕ) (t : Tuple) (le : h ≤ s) where
-  -- the state behind one version, of those that stay, and of all
+  -- the state after one version, of those that stay, and of all
   abbrev kept_state : List Version → Version → Bool → Bool
   kept_state all v x = if (is_kept_of h all v && nat_le v.place s) then (if is_of t v then is_touch v.change else x) else x
 
@@ -133,7 +133,7 @@ module _ (h s : ℕ) (t : Tuple) (le : h ≤ s) where
   Same all rows = (x y : Bool) → (x ≡ y) ⊎ (low h t rows ≡ true) → (low h t rows ≡ true → x ≡ false)
       → walk t x (λ v. is_kept_of h all v && nat_le v.place s) rows ≡ walk t y (λ v. nat_le v.place s) rows
 
-  -- from the states behind the first version on
+  -- from the states after the first version on
   goes_on : (all rows : List Version) (v : Version) (x y x' y' : Bool) → Same all rows → kept_state all v x ≡ x' → full_state v y ≡ y'
       → (x' ≡ y') ⊎ (low h t rows ≡ true) → (low h t rows ≡ true → x' ≡ false)
       → walk t x (λ u. is_kept_of h all u && nat_le u.place s) (v ∷ rows) ≡ walk t y (λ u. nat_le u.place s) (v ∷ rows)
@@ -278,7 +278,7 @@ rising_from t place (w ∷ log) whole = rising_then t place w.changes (changes_f
     (above_from t place (place + 1) log (omega arith))
     (rising_from t (place + 1) log (λ j v is. whole (suc j) v is))
 
--- of the conditions nothing has to be known
+-- nothing has to be known of the conditions
 pub whole_writes_give_snapshots : (log : List Entry) (p h s : ℕ) (t : Tuple) → AreWhole (take p log) → h ≤ s → s ≤ p → there_at (versions log p h) s t ≡ is_at log s t
 unfolding versions
 whole_writes_give_snapshots log p h s t whole le within =

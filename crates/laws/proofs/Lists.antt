@@ -9,6 +9,6 @@ slice_get_taken (suc n) [] i x is = absurd cc
 slice_get_taken (suc n) (y ∷ xs) zero x is = is
 slice_get_taken (suc n) (y ∷ xs) (suc i) x is = slice_get_taken n xs i x is
 
--- where no id stands twice, none does among the first ones
+-- if no id stands twice, none does among the first ones
 pub new_taken : (n : ℕ) (log : List Entry) → AreNew log → AreNew (take n log)
 new_taken n log new i j v w is_v is_w same = new i j v w (slice_get_taken n log i v is_v) (slice_get_taken n log j w is_w) same

@@ -1,4 +1,4 @@
--- The log with one write more, and its beginnings.
+-- The log with one more write, and its beginnings.
 use Rattle.std.proofs.Common.{⊎_elim, ℕ, ◌<◌, ◌≤◌, List, [], ◌∷◌, ◌++◌, length, take, sym, ◌∙◌, ap, subst, arith}
 use Rattle.std.proofs.lemmas.List.{take-append-le, length-take-le, take-take}
 use Rattle.std.proofs.lemmas.Option.{slice_get_within}

@@ -69,7 +69,7 @@ pub snapshots_stay : (m n : Machine) (moves : List Move) (s : ℕ) (t : Tuple) �
 unfolding is_at
 snapshots_stay m n moves s t within le steps = ap (λ (log : List Entry). there_after t false (flat_map (λ (w : Entry). w.changes) log)) (first_stay m n moves s within le steps)
 
--- the writes behind a place, up to one that is not below it
+-- the writes after a place, up to one that is not below it
 between : (c e : ℕ) (log : List Entry) → c ≤ e → take (e - c) (drop c log) ≡ drop c (take e log)
 between c e log le = sym (drop-take c (e - c) log) ∙ ap (λ k. drop c (take k log)) (let is : c + (e - c) ≡ e = omega (arith, le) in is)
 

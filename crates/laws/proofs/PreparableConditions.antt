@@ -34,7 +34,7 @@ there_none t b (w ∷ ws) none =
     ∙ ap (λ c. there_after t c (flat_map (λ (v : Entry). v.changes) ws)) (there_unchanged t b w.changes (none zero w refl))
     ∙ there_none t b ws (λ j v is. none (suc j) v is)
 
--- where no write behind a place changes a tuple, that place tells all of it
+-- if no write after a place changes a tuple, that place tells all of it
 module _ (t : Tuple) (log : List Entry) (p : ℕ) (none : ChangeNone t (drop p log)) where
   pub last_before : last_place log t ≡ last_place (take p log) t
   unfolding last_place
@@ -145,7 +145,7 @@ last_of_changes t found place (w ∷ log) = ⊎_elim
     rw other (omega (arith, rest, later)))
     (cases_Bool (has_tuple t (changed w.changes)))
 
--- what a condition asks is so of the log where it is so of the rows, which know the last change above the horizon and whether the tuple is there
+-- what a condition asks is so of the log if it is so of the rows, which know the last change above the horizon and whether the tuple is there
 meets_log : (want : Want) (h of_rows of_log : ℕ) (there : Bool) → ((place : ℕ) → want ≡ NotAfter place → h ≤ place) → of_log ≤ max h of_rows → meets_want want of_rows there ≡ true → meets_want want of_log there ≡ true
 meets_log (NotAfter place) h of_rows of_log there above le meets =
     let low : of_rows ≤ place = leb-true _ _ meets in

@@ -39,7 +39,7 @@ unfolding is_at
 first_writes log n place le t = ap (λ (l : List Entry). there_after t false (flat_map (λ (v : Entry). v.changes) l)) (take-take place n log le)
 
 module _ (shards : ℕ) (log : List Entry) (place : ℕ) (q : Tupleset) where
-  -- of the shards below the first nothing is selected
+  -- nothing is selected of the shards below the first
   pub none_below : IsSelection (there_below shards 0 log place) q []
   none_below = record {
     ascending = tt;

@@ -14,7 +14,7 @@ first_before t [] asc (suc j) u is = absurd (cc)
 first_before t (v ∷ ts) asc zero u is = subst (λ (x : Tuple). tuple_lt t x ≡ true) (let e : v ≡ u = cc in e) asc.0
 first_before t (v ∷ ts) asc (suc j) u is = tuple_lt_trans t v u asc.0 (first_before v ts asc.1 j u is)
 
--- each tuple stands before those behind it
+-- each tuple stands before those after it
 before : (ts : List Tuple) → AreAscending ts → (i j : ℕ) (t u : Tuple) → slice_get ts i ≡ Some t → slice_get ts j ≡ Some u → i < j → tuple_lt t u ≡ true
 before [] asc zero j t u is js lt = absurd (cc)
 before [] asc (suc i) j t u is js lt = absurd (cc)
@@ -27,7 +27,7 @@ pub selections_ascend : (there : Tuple → Bool) (q : Tupleset) (rows : List Tup
     → (i j : ℕ) (t u : Tuple) → slice_get rows i ≡ Some t → slice_get rows j ≡ Some u → i < j → tuple_lt t u ≡ true
 selections_ascend there q rows selects = before rows selects.ascending
 
--- each tuple that a list has stands behind the one before the list
+-- each tuple that a list has stands after the one before the list
 all_behind : (t : Tuple) (ts : List Tuple) → AreAscending (t ∷ ts) → All (λ u. tuple_lt t u ≡ true) ts
 all_behind t [] asc = All-nil (λ u. tuple_lt t u ≡ true)
 all_behind t (v ∷ ts) asc = All-cons (λ u. tuple_lt t u ≡ true) v ts asc.0 (λ k d lt. tuple_lt_trans t v (slice_index_or ts k d) asc.0 (all_behind v ts asc.1 k d lt))
@@ -57,7 +57,7 @@ same_first x y xs ys ascx ascy there back = ⊎_elim
     (λ more. ⊎_elim (λ same. same) (λ gt. absurd (not_before y x xs ascx back gt)) more)
     (tuple_lt_total x y)
 
--- what both lists have behind the same first tuple
+-- what both lists have after the same first tuple
 rest_has : (x y : Tuple) (xs ys : List Tuple) → AreAscending (x ∷ xs) → x ≡ y → ((t : Tuple) → Contains (x ∷ xs) t → Contains (y ∷ ys) t) → (t : Tuple) → Contains xs t → Contains ys t
 rest_has x y xs ys asc same there t has = ⊎_elim
     (λ is. absurd (true≢false (sym (All-contains (λ u. tuple_lt x u ≡ true) xs t (all_behind x xs asc) has) ∙ ap (tuple_lt x) (sym is) ∙ ap (tuple_lt x) (sym same) ∙ tuple_lt_irrefl x)))

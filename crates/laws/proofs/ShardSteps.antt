@@ -1,4 +1,4 @@
--- One record more at a shard.
+-- One more record at a shard.
 use Rattle.std.proofs.Common.{◌≡◌, ⊎_elim, ℕ, ◌+◌, ◌-◌, ◌<◌, ◌≤◌, List, [], ◌∷◌, ◌++◌, length, take, drop, Option, Some, None, refl, sym, ◌∙◌, ap, subst, arith}
 use Rattle.std.proofs.lemmas.List.{drop-drop, drop-take, length-take-le, take-take}
 use Rattle.std.proofs.lemmas.Bool.{cases_lt}
@@ -31,7 +31,7 @@ pushed store shards s log h c records r image means given = record {
   given = subst (AreGivenInDoubt c.epoch) (sym (shard_push records r)) given;
 }
 
--- where the longer list means each beginning of the log that the shorter one means, all nodes go on to rest
+-- if the longer list means each beginning of the log that the shorter one means, all nodes stay at rest
 step_rests : (store shards : ℕ) (log : List Entry) (kept h : ℕ) (coordinator : List Record → Type 0) (old new : ℕ → List Record → Type 0) (s : ℕ) (records : List Record) (r : Record)
     → IsShardStep store shards log kept h coordinator old s records r new
     → ((c : List Record) (n : ℕ) → coordinator c → kept ≤ n → n ≤ length log → h ≤ (coordinator_state c).horizon
@@ -145,7 +145,7 @@ collects_rest coordinator old new store shards log kept h s records place step l
     (collected_means (shard_node store shards s) shards s (take n log) (coordinator_state c).horizon h records place step.image low m.means)
     m.given)
 
--- the writes of a batch that are not learned are those of the log behind the learned place, up to the batch's end
+-- the writes of a batch that are not learned are those of the log after the learned place, up to the batch's end
 pub unlearned_of_log : (log writes : List Entry) (from p n : ℕ) → AreOfLog log from writes → from ≤ p → p ≤ from + length writes → from + length writes ≤ n
     → drop (p - from) writes ≡ take (from + length writes - p) (drop p (take n log))
 unlearned_of_log log writes from p n are low high within =
@@ -162,7 +162,7 @@ unlearned_of_log log writes from p n are low high within =
     ∙ sym (take-take m (n - p) (drop p log) few)
     ∙ ap (take m) (sym (drop-take p (n - p) log) ∙ ap (λ (q : ℕ). drop p (take q log)) rest)
 
--- a batch of the log leaves what the records mean beside the first n writes, those of the batch among them
+-- a batch of the log leaves what the records mean beside the first n writes, including those of the batch
 pub batch_means : (store shards s : ℕ) (log : List Entry) (hc h : ℕ) (state : ShardState) (from : ℕ) (writes : List Entry) (n : ℕ) → AreNew log → AreOfLog log from writes → from + length writes ≤ n → n ≤ length log
     → from ≤ state.learned → state.learned ≤ from + length writes → h ≤ hc → ShardMeans shards s (take n log) hc h state
     → ShardMeans shards s (take n log) hc h (shard_step state (learning (shard_node store shards s) state from writes))

@@ -1,4 +1,4 @@
--- Small checkpoints: what they stand for, and lists that look like one and are none.
+-- Small checkpoints: what they stand for, and lists that look like one and are not.
 use Rattle.std.proofs.Common.{◌≡◌, inl, inr, ⊎_elim, true, false, List, [], ◌∷◌, ◌++◌, Some, None, refl, arith}
 use Rattle.std.proofs.lemmas.List.Elements.{All-nil}
 use Rattle.tuples.specs.Parts.{shard_of}
@@ -87,7 +87,7 @@ high_row : IsShardImage (shard_node 7 1 0) (head ++ Checkpoint (Row 6 (Touch (vi
 unfolding inside_of shard_state shard_step
 high_row image = let may : MayTakeRow _ _ _ 6 _ = image.each head (Checkpoint (Ends 3) ∷ []) (Checkpoint (Row 6 (Touch (viewed 97)))) refl in let is = may.learned in omega (arith, is)
 
--- nor one that begins behind an opening
+-- nor one that begins after an opening
 late : IsShardImage (shard_node 7 1 0) (Epoch 1 7 1 0 ∷ whole) → ⊥
 unfolding inside_of shard_state shard_step
 late image = ⊎_elim
@@ -109,7 +109,7 @@ checkpointed : StandsForSame knows (coordinator_state (coordinator_checkpoint (c
 unfolding coordinator_checkpoint coordinator_state coordinator_step
 checkpointed = record { horizon = refl; epoch = refl; above = omega arith; within = inr (omega arith); log = refl; end = refl }
 
--- and decisions of it go on from its horizon
+-- and decisions of it continue from its horizon
 gap : IsCoordinatorImage (coordinator_node 7 1) (Checkpoint (Begins 3) ∷ Epoch 2 7 1 255 ∷ Horizon 1 ∷ Decision 3 second_write ∷ Checkpoint (Ends 3) ∷ []) → ⊥
 unfolding inside_of coordinator_state coordinator_step
 gap image =

@@ -28,7 +28,7 @@ cut_short : gated (take 27 image) ≡ None
 unfolding gated
 cut_short = refl
 
--- of no byte or one nothing is asked
+-- nothing is asked of no byte or one
 unmade : gated (165 ∷ []) ≡ Some []
 unfolding gated
 unmade = refl

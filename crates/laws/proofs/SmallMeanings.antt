@@ -76,7 +76,7 @@ not_settled m = omega (arith, m.settled)
 abbrev opened : List Record
 opened = Epoch 1 7 1 255 ∷ []
 
--- a decision at the next place is a coordinator's record, one that leaves a gap is none
+-- a decision at the next place is a coordinator's record, one that leaves a gap is not
 decided_next : IsCoordinatorImage (coordinator_node 7 1) (opened ++ Decision 1 first_write ∷ [])
 unfolding coordinator_state coordinator_step
 decided_next = coordinator_image_push (coordinator_node 7 1) opened (Decision 1 first_write)
@@ -103,7 +103,7 @@ twice : IsCoordinatorImage (coordinator_node 7 1) (opened ++ Decision 1 first_wr
 unfolding coordinator_state coordinator_step
 twice image = let may : MayDecide _ 2 first_write = coordinator_last (coordinator_node 7 1) (opened ++ Decision 1 first_write ∷ []) (Decision 2 first_write) image in may.new 0 first_write refl refl
 
--- nothing is decided whose condition is broken
+-- nothing whose condition is broken is decided
 abbrev if_absent : Entry
 if_absent = numbered 2 (Touch (viewed 98) ∷ []) (record { tuple = viewed 97; want = Absent } ∷ [])
 
@@ -115,8 +115,8 @@ broken image =
     let holds : HoldsKnown (coordinator_state before) (record { tuple = viewed 97; want = Absent }) = All-head (HoldsKnown (coordinator_state before)) (record { tuple = viewed 97; want = Absent }) [] may.conditions in
     true≢false (sym (holds (inl refl)))
 
--- a coordinator that has forgotten the decision at its horizon stands for the same, and so does not one that has forgotten a decision above it, or has lost
--- the last
+-- a coordinator that has forgotten the decision at its horizon stands for the same; one that has forgotten a decision above it, or has lost the last, does
+-- not
 abbrev knowing : ℕ → ℕ → List Entry → CoordinatorState
 knowing base horizon log = record { base = base; log = log; horizon = horizon; epoch = 1 }
 

@@ -62,7 +62,7 @@ counted_changes s place (w ∷ log) = ⊎_elim
     ∙ ap (flat_map (λ (v : Entry). v.changes)) (sym (take_none (s + 1 - place) (w ∷ log) n)))
     (cases_le place s)
 
--- by the changes of the first p writes a tuple is there at a place up to p as the log says
+-- at a place up to p, a tuple is there by the changes of the first p writes as the log says
 pub there_at-changes : (log : List Entry) (p s : ℕ) (t : Tuple) → s ≤ p → there_at (changes_from 1 (take p log)) s t ≡ is_at log s t
 unfolding there_at is_at
 there_at-changes log p s t le =

@@ -5,7 +5,7 @@ use Rattle.std.proofs.Math.Seq.{take-add}
 use Rattle.laws.proofs.Words.{Entry, events_from, placed}
 use Rattle.tuples.specs.Watching.{EventsJoin, Placed, events, is_among}
 
--- the events of two logs, one behind the other
+-- the events of two logs, one after another
 events_from-append : (place : ℕ) (names : List (List ℕ)) (xs ys : List Entry) → events_from place names (xs ++ ys) ≡ events_from place names xs ++ events_from (place + length xs) names ys
 events_from-append place names [] ys = ap (λ (n : ℕ). events_from n names ys) (sym (add-zero place))
 events_from-append place names (w ∷ xs) ys =

@@ -1,4 +1,4 @@
--- Which conditions hold after a log: one write more, part by part, and by its last writes alone.
+-- Which conditions hold after a log: one more write, part by part, and by its last writes alone.
 use Rattle.std.proofs.Common.{◌≡◌, ◌≢◌, ◌⊎◌, inl, inr, ⊎_elim, ℕ, Bool, true, false, not, ◌+◌, ◌<◌, ◌≤◌, ◌==◌, List, [], ◌∷◌, ◌++◌, length, take, drop, filter, Some, None, All, refl, sym, ◌∙◌, ap, subst, arith, cond, append-nil, slice_get}
 use Rattle.std.specs.List.{flat_map, list_any}
 use Rattle.std.proofs.lemmas.Bool.{cases_Bool, both_ways, eq-eqb, or_cases, or_parts}
@@ -42,14 +42,14 @@ last_push : (t : Tuple) (log : List Entry) (w : Entry) → has_tuple t (changed 
 unfolding last_place
 last_push t log w none = last_from-push 0 1 t log w none
 
--- a condition of a tuple that the write does not change goes on to hold
+-- a condition of a tuple that the write does not change still holds
 pub holds_push : (log : List Entry) (w : Entry) (c : Condition) → has_tuple c.tuple (changed w.changes) ≡ false → Holds log c → Holds (log ++ w ∷ []) c
 holds_push log w c none holds =
     ap (λ (n : ℕ). meets_want c.want n (is_at (log ++ w ∷ []) (length (log ++ w ∷ [])) c.tuple)) (last_push c.tuple log w none)
     ∙ ap (λ (b : Bool). meets_want c.want (last_place log c.tuple) b) (there_push c.tuple log w none)
     ∙ holds
 
--- conditions of tuples that the write does not change go on to hold
+-- conditions of tuples that the write does not change still hold
 hold_apart : (log : List Entry) (w : Entry) (conditions : List Condition) → ((t : Tuple) → has_tuple t (conditioned conditions) ≡ true → has_tuple t (changed w.changes) ≡ false)
     → All (Holds log) conditions → All (Holds (log ++ w ∷ [])) conditions
 hold_apart log w [] apart hold = All-nil (Holds (log ++ w ∷ []))
@@ -145,7 +145,7 @@ conditions_hold_by_parts shards log w some each = hold_parts shards log w.condit
     nothing : (conditions : List Condition) → not (length conditions == 0) ≡ false → All (Holds log) conditions
     nothing conditions none = subst (All (Holds log)) (sym (empty_of_length conditions none)) (All-nil (Holds log))
 
--- the last change of a tuple, and whether it is there, by the writes behind a place, where these change it or are the whole log
+-- the last change of a tuple, and whether it is there, by the writes after a place, if these change it or are the whole log
 module _ (log : List Entry) (base : ℕ) (t : Tuple) (le : base ≤ length log) (enough : (base ≡ 0) ⊎ (list_any (λ (w : Entry). has_tuple t (changed w.changes)) (drop base log) ≡ true)) where
   joined : take base log ++ drop base log ≡ log
   joined = take-append-drop base log

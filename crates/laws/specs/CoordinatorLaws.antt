@@ -1,4 +1,4 @@
--- Laws of the coordinator's steps: with one record more at the coordinator, all nodes go on to mean the log, or the log with one write more.
+-- Laws of the coordinator's steps: with one more record at the coordinator, all nodes still mean the log, or the log with one more write.
 use Rattle.std.specs.Prelude.{◌≡◌, ◌⊎◌, ◌≤◌, ◌<◌, ℕ, List, [], ◌∷◌, ◌++◌, length, take}
 use Rattle.tuples.specs.declared.entry.Entry.{Entry}
 use Rattle.tuples.specs.Changes.{IsWrite}
@@ -13,7 +13,7 @@ use Rattle.laws.specs.LogLaws.{IsUnlisted}
 use Rattle.laws.specs.Worlds.{AddsOne, Means, Rests, coordinator_node}
 
 -- All nodes are at rest, a stop may leave these records of the coordinator, and with one more they are still a coordinator's; from then
--- on that is what a stop may leave of it besides what it could leave before.
+-- on a stop may leave that of it, besides what it could leave before.
 pub record IsCoordinatorStep (store shards : ℕ) (log : List Entry) (kept h : ℕ) (old : List Record → Type 0) (shard : ℕ → List Record → Type 0)
     (records : List Record) (r : Record) (new : List Record → Type 0) : Type 0 where
   pub rests : Rests store shards log kept h old shard
@@ -21,7 +21,7 @@ pub record IsCoordinatorStep (store shards : ℕ) (log : List Entry) (kept h : �
   pub image : IsCoordinatorImage (coordinator_node store shards) (records ++ r ∷ [])
   pub adds : AddsOne old records r new
 
--- whatever a stop leaves of a shard has its part of the write in doubt, where it has one
+-- whatever a stop leaves of a shard has its part of the write in doubt, if it has one
 abbrev pub IsPreparedInAll : ℕ → (ℕ → List Record → Type 0) → Entry → Type 0
 IsPreparedInAll shards shard w = (s : ℕ) (found : List Record) → s < shards → shard s found → find_in_doubt w.id (shard_state found).in_doubt ≡ expected shards s w
 

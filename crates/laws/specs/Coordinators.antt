@@ -7,7 +7,7 @@ use Rattle.records.specs.Coordinators.{CoordinatorState}
 abbrev pub AreGiven : ℕ → List Entry → Type 0
 AreGiven epoch log = (j : ℕ) (w : Entry) → slice_get log j ≡ Some w → w.id.epoch ≤ epoch
 
--- The decisions are those of the log behind a place at or below the coordinator's horizon, which is at least h and a place of the log;
+-- The decisions are those of the log after a place at or below the coordinator's horizon, which is at least h and a place of the log;
 -- and each id of the log was given in an epoch of the coordinator's.
 pub record CoordinatorMeans (log : List Entry) (h : ℕ) (state : CoordinatorState) : Type 0 where
   pub decisions : state.log ≡ drop state.base log

@@ -1,4 +1,4 @@
--- Laws of writes in doubt: no two at a shard name one tuple, so that the conditions of one go on to hold where another is decided.
+-- Laws of writes in doubt: no two at a shard name one tuple, so the conditions of one still hold if another is decided.
 use Rattle.std.specs.Prelude.{◌≡◌, ◌≢◌, ◌≤◌, ◌<◌, ◌++◌, ℕ, true, List, [], ◌∷◌, Some, Contains, false}
 use Rattle.tuples.specs.declared.change.Condition.{Condition}
 use Rattle.tuples.specs.declared.entry.Entry.{Entry}
@@ -25,12 +25,12 @@ DecisionsLeaveConditions = (shards s : ℕ) (log : List Entry) (v w : Entry) (in
     → find_in_doubt w.id in_doubt ≡ expected shards s w → find_in_doubt v.id in_doubt ≡ Some (part shards s v)
     → HoldAfter log (part shards s v).conditions → HoldAfter (log ++ w ∷ []) (part shards s v).conditions
 
--- the conditions of a write hold where those of each participant's part do
+-- the conditions of a write hold if those of each participant's part do
 abbrev pub ConditionsHoldByParts : Type 0
 ConditionsHoldByParts = (shards : ℕ) (log : List Entry) (w : Entry) → 1 ≤ shards
     → ((s : ℕ) → s < shards → takes_part shards s w ≡ true → HoldAfter log (part shards s w).conditions) → HoldAfter log w.conditions
 
--- a condition that holds after the log holds so far as the decisions that a coordinator knows decide it
+-- a condition that holds after the log holds as far as the decisions that a coordinator knows decide it
 abbrev pub ConditionsHoldAsKnown : Type 0
 ConditionsHoldAsKnown = (log : List Entry) (h : ℕ) (state : CoordinatorState) (c : Condition) → CoordinatorMeans log h state → Holds log c → HoldsKnown state c
 
@@ -49,7 +49,7 @@ PreparableConditionsHold = (shards s : ℕ) (log : List Entry) (hc h : ℕ) (sta
 abbrev pub IsMetHere : ShardState → Condition → Type 0
 IsMetHere state c = meets_want c.want (last_version state.rows c.tuple) (there_at state.rows state.learned c.tuple) ≡ true
 
--- A condition that is met after the whole log is met by the rows of its tuple's shard, where no write in doubt there names the tuple: so what the shard
+-- A condition that is met after the whole log is met by the rows of its tuple's shard, if no write in doubt there names the tuple: so what the shard
 -- finds broken is broken.
 abbrev pub MetConditionsAreMetHere : Type 0
 MetConditionsAreMetHere = (shards s : ℕ) (log : List Entry) (hc h : ℕ) (state : ShardState) (c : Condition) → IsLog log → h ≤ hc → ShardMeans shards s log hc h state

@@ -23,7 +23,7 @@ abbrev pub PreparedMeansTheSame : Type 0
 PreparedMeansTheSame = (shards s : ℕ) (log : List Entry) (hc h : ℕ) (state : ShardState) (p : Entry) → IsUnlisted p.id log
     → ShardMeans shards s log hc h state → ShardMeans shards s log hc h (shard_step state (Prepare p))
 
--- in a selection each tuple stands before those behind it, so each stands once
+-- in a selection each tuple is before those that follow it, so each stands once
 abbrev pub SelectionsAscend : Type 0
 SelectionsAscend = (there : Tuple → Bool) (q : Tupleset) (rows : List Tuple) → IsSelection there q rows
     → (i j : ℕ) (t u : Tuple) → slice_get rows i ≡ Some t → slice_get rows j ≡ Some u → i < j → tuple_lt t u ≡ true

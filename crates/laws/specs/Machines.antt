@@ -19,8 +19,8 @@ pub data Move : Type 0 where
   cut : ℕ → Move
   raise : ℕ → Move
 
--- What one move makes of the machine. A write is listed behind the others, under a new id and where its conditions hold. No move cuts what
--- is kept, or lowers the kept place or the horizon.
+-- What one move makes of the machine. A write is listed after the others, under a new id and if its conditions hold. No move cuts what is
+-- kept, or lowers the kept place or the horizon.
 abbrev pub Makes : Machine → Move → Machine → Type 0
 Makes m (append w) n = IsLog (m.log ++ w ∷ []) × (n ≡ record m { log = m.log ++ w ∷ [] })
 Makes m (keep i) n = (i ≤ length m.log) × (n ≡ record m { kept = max m.kept i })

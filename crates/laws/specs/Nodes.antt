@@ -33,7 +33,7 @@ pub data NodeState : Type 0 where
 abbrev pub IsOfRefusedOpening : Refusal → Type 0
 IsOfRefusedOpening e = IsOneOf e (Down ∷ NoMemory ∷ Full ∷ [])
 
--- a node that is up stages one record more, which is no opening
+-- a node that is up stages one more record, which is not an opening
 pub record StagesMore (old new : NodeState) : Type 0 where
   pub durable : List Record
   pub staged : List Record
@@ -42,7 +42,7 @@ pub record StagesMore (old new : NodeState) : Type 0 where
   pub now : new ≡ up durable (staged ++ next ∷ [])
   pub no_opening : (epoch store shards node : ℕ) → next ≡ Epoch epoch store shards node → ⊥
 
--- A coordinator knows the same, but for decisions at or below its horizon, of which it may have forgotten the first.
+-- A coordinator knows the same, except that it may have forgotten the first decisions at or below its horizon.
 pub record StandsForSame (old new : CoordinatorState) : Type 0 where
   pub horizon : new.horizon ≡ old.horizon
   pub epoch : new.epoch ≡ old.epoch
@@ -51,7 +51,7 @@ pub record StandsForSame (old new : CoordinatorState) : Type 0 where
   pub log : new.log ≡ drop (new.base - old.base) old.log
   pub end : end_of new ≡ end_of old
 
--- Records of a node stand for the same as others: whoever can have the others can have them.
+-- Records of a node stand for the same as others: a node that can have the others can have them.
 abbrev pub StandFor : NodeName → List Record → List Record → Type 0
 StandFor coordinator old new = StandsForSame (coordinator_state old) (coordinator_state new) × ((me : Identity) → IsCoordinatorImage me old → IsCoordinatorImage me new)
 StandFor (shard s) old new = IsAlike (shard_state old) (shard_state new) × ((me : Identity) → IsShardImage me old → IsShardImage me new)
@@ -72,7 +72,7 @@ pub record GoesDown (old new : NodeState) : Type 0 where
   pub was : old ≡ up durable staged
   pub now : new ≡ down
 
--- What a call may do to the node that it calls: nothing, one record more, a flush, or it goes down. No call but an opening opens it.
+-- What a call may do to the node that it calls: nothing, one more record, a flush, or it goes down. No call but an opening opens it.
 abbrev pub NodeTurns : NodeName → NodeState → NodeState → Type 0
 NodeTurns n old new = (new ≡ old) ⊎ (StagesMore old new ⊎ (FlushesAll n old new ⊎ GoesDown old new))
 
@@ -92,7 +92,7 @@ pub record Nodes : Type 0 where
   pub open_writes : List Entry
   pub given : ℕ
 
--- what a node has staged: nothing where it is not up
+-- what a node has staged: nothing if it is not up
 abbrev pub staged_of : NodeState → List Record
 staged_of (up durable staged) = staged
 staged_of down = []

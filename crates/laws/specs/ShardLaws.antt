@@ -1,4 +1,4 @@
--- Laws of a shard's steps: with one record more at a shard, all nodes go on to mean the log.
+-- Laws of a shard's steps: with one more record at a shard, all nodes still mean the log.
 use Rattle.std.specs.Prelude.{◌≡◌, ◌≤◌, ◌+◌, ℕ, List, [], ◌∷◌, ◌++◌, length, take, drop, Some, slice_get}
 use Rattle.tuples.specs.declared.entry.Entry.{Entry}
 use Rattle.tuples.specs.declared.entry.WriteId.{WriteId}
@@ -10,8 +10,8 @@ use Rattle.shard.specs.Shards.{learning}
 use Rattle.laws.specs.LogLaws.{IsUnlisted}
 use Rattle.laws.specs.Worlds.{AddsOneAt, Rests, shard_node}
 
--- All nodes are at rest, a stop may leave these records of shard s, and with one more they are still a shard's; from then on that is what
--- a stop may leave of it besides what it could leave before.
+-- All nodes are at rest, a stop may leave these records of shard s, and with one more they are still a shard's; from then on a stop may
+-- leave that of it, besides what it could leave before.
 pub record IsShardStep (store shards : ℕ) (log : List Entry) (kept h : ℕ) (coordinator : List Record → Type 0) (old : ℕ → List Record → Type 0)
     (s : ℕ) (records : List Record) (r : Record) (new : ℕ → List Record → Type 0) : Type 0 where
   pub rests : Rests store shards log kept h coordinator old
@@ -19,7 +19,7 @@ pub record IsShardStep (store shards : ℕ) (log : List Entry) (kept h : ℕ) (c
   pub image : IsShardImage (shard_node store shards s) (records ++ r ∷ [])
   pub adds : AddsOneAt s old records r new
 
--- a stop leaves no records of the coordinator but of this epoch or a later one
+-- a stop leaves only records of the coordinator that are of this epoch or a later one
 abbrev pub IsEpochGiven : (List Record → Type 0) → ℕ → Type 0
 IsEpochGiven coordinator epoch = (found : List Record) → coordinator found → epoch ≤ (coordinator_state found).epoch
 
@@ -27,12 +27,12 @@ IsEpochGiven coordinator epoch = (found : List Record) → coordinator found →
 abbrev pub IsUnlistedAbove : ℕ → WriteId → List Entry → Type 0
 IsUnlistedAbove h id log = (j : ℕ) (w : Entry) → slice_get log j ≡ Some w → h ≤ j → id ≡ w.id → ⊥
 
--- these writes are those of the log behind a place
+-- these writes are those of the log after a place
 abbrev pub AreOfLog : List Entry → ℕ → List Entry → Type 0
 AreOfLog log from writes = writes ≡ take (length writes) (drop from log)
 
--- Given what a stop may leave of the coordinator, and of the shards before and after a step of one of them: one record more leaves all
--- nodes at rest, where it is
+-- Given what a stop may leave of the coordinator, and of the shards before and after a step of one of them: one more record leaves all
+-- nodes at rest, if it is
 module _ (coordinator : List Record → Type 0) (old new : ℕ → List Record → Type 0) where
   -- a prepare of a write that is not listed, under an id that was given
   abbrev pub PreparesRest : Type 0

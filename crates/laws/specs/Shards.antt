@@ -8,7 +8,7 @@ use Rattle.tuples.specs.Versions.{of_shard, versions}
 use Rattle.records.specs.Replays.{ShardState, find_in_doubt}
 use Rattle.versions.specs.Alike.{AreAlike}
 
--- A write of the log (its place less one is j) above the learned place is in doubt with exactly its part, and not in doubt where it has
+-- A write of the log (its place less one is j) above the learned place is in doubt with exactly its part, and not in doubt if it has
 -- none; no write of the log at or below the learned place is in doubt.
 pub record InDoubtAbove (shards s : ℕ) (log : List Entry) (state : ShardState) : Type 0 where
   pub above : (j : ℕ) (w : Entry) → slice_get log j ≡ Some w → state.learned ≤ j → find_in_doubt w.id state.in_doubt ≡ expected shards s w

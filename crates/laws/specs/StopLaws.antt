@@ -17,7 +17,7 @@ LeavesLessAt old new = (s : ℕ) (found : List Record) → new s found → old s
 
 -- Given what a stop may leave of the coordinator and of the shards, before a step and after it
 module _ (old new : List Record → Type 0) (shard shard_after : ℕ → List Record → Type 0) where
-  -- where a stop leaves less, all nodes go on to rest, and what the coordinator knows of the whole log goes on to be meant
+  -- if a stop leaves less, all nodes stay at rest, and what the coordinator knows of the whole log is still meant
   abbrev pub LessRests : Type 0
   LessRests = (store shards : ℕ) (log : List Entry) (kept h : ℕ) → LeavesLess old new → LeavesLessAt shard shard_after
       → (Rests store shards log kept h old shard → Rests store shards log kept h new shard_after)
@@ -34,7 +34,7 @@ module _ (old new : List Record → Type 0) (shard shard_after : ℕ → List Re
       → ((found : List Record) → old found → later ≤ (coordinator_state found).horizon)
       → Rests store shards log kept h old shard → Rests store shards log kept later old shard
 
-  -- records of the coordinator mean the whole log where, left alone, they rest with all of it kept
+  -- records of the coordinator mean the whole log if, left alone, they rest with all of it kept
   abbrev pub WholeRests : Type 0
   WholeRests = (store shards : ℕ) (log : List Entry) (h : ℕ) (records : List Record) → IsLog log → h ≤ length log
       → Means store shards log h records shard ↔ Rests store shards log (length log) h (λ found. found ≡ records) shard

@@ -13,7 +13,7 @@ pub record MeansOne (store shards : ℕ) (log : List Entry) (kept h : ℕ) (foun
   pub means : Means store shards (take n log) h found at_shard
 
 -- A stop at any moment of a step leaves these of the coordinator and of the shards: they mean a beginning of the log from before the step, or
--- of the one behind it, that holds what was kept before; with the horizon from before.
+-- of the one after it, that holds what was kept before; with the horizon from before.
 abbrev pub RestsBetween : ℕ → ℕ → Machine → Machine → (List Record → Type 0) → (ℕ → List Record → Type 0) → Type 0
 RestsBetween store shards before after at_coordinator at_shard = (found : List Record) → at_coordinator found
     → MeansOne store shards before.log before.kept before.horizon found at_shard ⊎ MeansOne store shards after.log before.kept before.horizon found at_shard

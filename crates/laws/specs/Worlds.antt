@@ -11,11 +11,11 @@ use Rattle.records.specs.Coordinators.{CoordinatorState, IsCoordinatorImage, coo
 use Rattle.laws.specs.Shards.{ShardMeans}
 use Rattle.laws.specs.Coordinators.{CoordinatorMeans}
 
--- shard s of a store of so many shards
+-- shard s of a store of this many shards
 abbrev pub shard_node : ℕ → ℕ → ℕ → Identity
 shard_node store shards s = record { store = store; shards = shards; node = s }
 
--- the coordinator of a store of so many shards
+-- the coordinator of a store of this many shards
 abbrev pub coordinator_node : ℕ → ℕ → Identity
 coordinator_node store shards = record { store = store; shards = shards; node = coordinator_number }
 
@@ -52,14 +52,14 @@ pub record Rests (store shards : ℕ) (log : List Entry) (kept h : ℕ) (coordin
   pub within : kept ≤ length log
   pub each : (found : List Record) → coordinator found → (n : ℕ) × (kept ≤ n) × (n ≤ length log) × Means store shards (take n log) h found shard
 
--- what a stop leaves, with what is staged behind it or without
+-- what a stop leaves, with what is staged after it or without
 abbrev pub WithStaged : (List Record → Type 0) → List Record → List Record → Type 0
 WithStaged stops staged found = (before : List Record) × stops before × ((found ≡ before) ⊎ (found ≡ before ++ staged))
 
--- One record more at the coordinator: a stop leaves what it could leave before, or the records with this one.
+-- One more record at the coordinator: a stop leaves what it could leave before, or the records with this one.
 abbrev pub AddsOne : (List Record → Type 0) → List Record → Record → (List Record → Type 0) → Type 0
 AddsOne old records r new = (found : List Record) → new found → old found ⊎ (found ≡ records ++ r ∷ [])
 
--- One record more at shard s: a stop leaves what it could leave before, or, at this shard, its records with this one.
+-- One more record at shard s: a stop leaves what it could leave before, or, at this shard, its records with this one.
 abbrev pub AddsOneAt : ℕ → (ℕ → List Record → Type 0) → List Record → Record → (ℕ → List Record → Type 0) → Type 0
 AddsOneAt s old records r new = (t : ℕ) (found : List Record) → new t found → old t found ⊎ ((t ≡ s) × (found ≡ records ++ r ∷ []))

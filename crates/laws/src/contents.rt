@@ -14,7 +14,7 @@ pub trait Contents {
     ghost shard_after: { ℕ → List Record → Type 0 };
 }
 
-/// What a stop may leave of each node, but for what it has staged, before a step and after it.
+/// What a stop may leave of each node, except for what it has staged, before a step and after it.
 pub trait Leavings {
     ghost left: { NodeName → List Record → Type 0 };
 

@@ -3,7 +3,7 @@ ghost use Rattle.laws.specs.CoordinatorLaws.{DecisionsRest, FlushesRest, Horizon
 
 use crate::contents::Contents;
 
-/// A decision leaves all nodes at rest, over the log with its write, where that may be listed.
+/// A decision leaves all nodes at rest, over the log with its write, if that write may be listed.
 pub fn decisions_leave_all_at_rest<W: Contents>()
     ensures { DecisionsRest W.coordinator W.coordinator_after W.shard }
 {}

@@ -1,7 +1,7 @@
 //! What the records of all nodes mean beside one log of whole writes, and the machine that a store stands for: words and laws.
 //!
 //! Keeps: nothing at run time; each law is the contract of a function with an empty body.
-//! Callers rely on: with one record more at a node, whatever a stop leaves of all nodes goes on to mean a beginning of the log.
+//! Callers rely on: with one more record at a node, whatever a stop leaves of all nodes still means a beginning of the log.
 //!
 //! Start at `specs/Worlds.antt`, what all nodes mean, and `specs/Machines.antt`, the log and two numbers.
 #![tactic(auto)]

@@ -11,22 +11,22 @@ pub fn decisions_leave_conditions()
     ensures { DecisionsLeaveConditions }
 {}
 
-/// The conditions of a write hold where those of each participant's part do.
+/// The conditions of a write hold if those of each participant's part do.
 pub fn conditions_hold_by_parts()
     ensures { ConditionsHoldByParts }
 {}
 
-/// A condition that holds after the log holds so far as the coordinator's decisions tell.
+/// A condition that holds after the log holds as far as the coordinator's decisions tell.
 pub fn conditions_hold_as_known()
     ensures { ConditionsHoldAsKnown }
 {}
 
-/// What a shard tests of its part before it prepares it holds after the whole log, decisions that it has not learned among it.
+/// What a shard tests of its part before it prepares it holds after the whole log, including decisions that it has not learned.
 pub fn preparable_conditions_hold()
     ensures { PreparableConditionsHold }
 {}
 
-/// A condition that is met after the whole log is met by the rows of its tuple's shard, where no write in doubt there names the tuple.
+/// A condition that is met after the whole log is met by the rows of its tuple's shard, if no write in doubt there names the tuple.
 pub fn met_conditions_are_met_here()
     ensures { MetConditionsAreMetHere }
 {}

@@ -18,7 +18,7 @@ pub fn selections_ascend()
     ensures { SelectionsAscend }
 {}
 
-/// There is one answer to a read.
+/// A read has one answer.
 pub fn selections_are_one()
     ensures { SelectionsAreOne }
 {}
@@ -38,12 +38,12 @@ pub fn kept_writes_stay()
     ensures { KeptWritesStay }
 {}
 
-/// A place that was kept shows the same tuples for good.
+/// A kept place shows the same tuples for good.
 pub fn snapshots_stay()
     ensures { SnapshotsStay }
 {}
 
-/// A watch up to a place that was kept lists the same changes for good.
+/// A watch up to a kept place lists the same changes for good.
 pub fn events_stay()
     ensures { EventsStay }
 {}

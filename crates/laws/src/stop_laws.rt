@@ -3,12 +3,12 @@ ghost use Rattle.laws.specs.StopLaws.{EmptyRests, FlushesLeaveLess, HorizonRises
 
 use crate::contents::Contents;
 
-/// Where a stop leaves less, all nodes go on to rest.
+/// If a stop leaves less, all nodes stay at rest.
 pub fn less_leaves_all_at_rest<W: Contents>()
     ensures { LessRests W.coordinator W.coordinator_after W.shard W.shard_after }
 {}
 
-/// What a stop leaves after a flush, whatever that answered, it could leave before, with what was staged or without.
+/// What a stop leaves after a flush, whatever the flush answered, it could leave before, with what was staged or without.
 pub fn flushes_leave_less<W: Contents>()
     ensures { FlushesLeaveLess W.coordinator W.coordinator_after W.shard W.shard_after }
 {}
@@ -18,7 +18,7 @@ pub fn the_horizon_may_rise<W: Contents>()
     ensures { HorizonRises W.coordinator W.coordinator_after W.shard W.shard_after }
 {}
 
-/// Records mean the whole log where, left alone, they rest with all of it kept: so what leaves nodes at rest leaves that too.
+/// Records mean the whole log if, left alone, they rest with all of it kept: so what leaves nodes at rest leaves that too.
 pub fn the_whole_log_rests<W: Contents>()
     ensures { WholeRests W.coordinator W.coordinator_after W.shard W.shard_after }
 {}

@@ -19,7 +19,7 @@ first_none i id base ids none = ⊎_elim
     (λ differ. (differ, ap (λ c. if c then Some (base + 1) else place_of id (base + 1) ids) (sym differ) ∙ none))
     (cases_Bool (same_id i id))
 
--- one id more
+-- one more id
 pub place_pushed : (id new : WriteId) (base : ℕ) (ids : List WriteId) → place_of new base ids ≡ None
     → place_of id base (ids ++ new ∷ []) ≡ (if same_id new id then Some (base + length ids + 1) else place_of id base ids)
 place_pushed id new base [] none = ap (λ (n : ℕ). if same_id new id then Some n else None) (let e : base + 1 ≡ base + 0 + 1 = omega arith in e)

@@ -1,4 +1,4 @@
--- Decisions behind a place, and where a write stands among them.
+-- Decisions after a place, and where a write stands among them.
 use Rattle.std.specs.Prelude.{◌≡◌, ◌≢◌, ◌≤◌, ◌<◌, ◌+◌, ℕ, List, [], ◌∷◌, ◌++◌, length, map, Option, Some, None, slice_get, if◌then◌else◌}
 use Rattle.std.specs.Ordering.{nat_cmp, ordering_then}
 use Rattle.std.specs.declared.cmp.Ordering.{Ordering}
@@ -8,7 +8,7 @@ use Rattle.tuples.specs.Log.{same_id}
 use Rattle.records.specs.Format.{IsDecision}
 use Rattle.records.specs.Replays.{greatest_number}
 
--- the decisions behind a place, and the id of the one for which there is room
+-- the decisions after a place, and the id of the one for which there is room
 pub record LedgerValue : Type 0 where
   pub base : ℕ
   pub log : List Entry
@@ -22,7 +22,7 @@ IsDecided w = IsDecision 0 w
 abbrev pub IsOther : WriteId → List Entry → Type 0
 IsOther id log = (j : ℕ) (w : Entry) → slice_get log j ≡ Some w → w.id ≢ id
 
--- a write with the id stands at the place, among writes behind a base, and no other of them has the id
+-- a write with the id stands at the place, among writes after a base, and no other of them has the id
 pub record IsPlaceOf (id : WriteId) (base : ℕ) (log : List Entry) (place : ℕ) : Type 0 where
   pub index : ℕ
   pub write : Entry
@@ -39,7 +39,7 @@ abbrev pub known_ids : List Entry → Option WriteId → List WriteId
 known_ids log None = map id_of log
 known_ids log (Some id) = map id_of log ++ id ∷ []
 
--- the place of an id among ids behind a base
+-- the place of an id among ids after a base
 abbrev pub place_of : WriteId → ℕ → List WriteId → Option ℕ
 place_of id base [] = None
 place_of id base (i ∷ ids) = if same_id i id then Some (base + 1) else place_of id (base + 1) ids
@@ -52,12 +52,12 @@ abbrev pub AreApart : List WriteId → Type 0
 AreApart [] = Unit {0}
 AreApart (i ∷ ids) = ((base : ℕ) → place_of i base ids ≡ None) × AreApart ids
 
--- there is room for what is awaited
+-- there is room for the awaited one
 abbrev pub HasRoomFor : Option WriteId → ℕ → ℕ → Type 0
 HasRoomFor None len capacity = Unit {0}
 HasRoomFor (Some id) len capacity = len < capacity
 
--- the map has the place of each known id, none stands twice, and places end at the greatest number
+-- the map has the place of each known id, no id stands twice, and places end at the greatest number
 pub record IsIndexed (at : WriteId → Option ℕ) (base : ℕ) (ids : List WriteId) : Type 0 where
   pub places : (id : WriteId) → at id ≡ place_of id base ids
   pub apart : AreApart ids

@@ -1,4 +1,4 @@
-// The decisions behind a place: by place in a queue, by id in a map.
+// The decisions after a place: by place in a queue, by id in a map.
 ghost use Rattle.std.specs.Prelude.{ℕ, true, false, ◌≡◌, ◌+◌, ◌-◌, ◌≤◌, ◌<◌, ◌++◌, ◌∷◌, [], drop, length, None, Some, OnOk, OnErr, IfOk, MatchOption, take};
 ghost use Rattle.records.specs.Replays.{greatest_number};
 ghost use Rattle.ledger.specs.Ledgers.{IsDecided, IsOther, IsPlaceOf};
@@ -8,7 +8,7 @@ use std::collections::{BTreeMap, VecDeque};
 use std::marker::Model;
 use tuples::{Entry, WriteId};
 
-/// The decisions behind a place, its base, in the order of their places.
+/// The decisions after a place, its base, in the order of their places.
 #[derive(Drop)]
 pub struct Ledger {
     base: u64,
@@ -39,7 +39,7 @@ fn copied(write: &Entry) -> Result<Entry, AllocError>
 }
 
 impl Ledger {
-    /// No decisions behind a place, which takes no memory.
+    /// No decisions after a place; allocates nothing.
     pub fn new(alloc: Global, base: u64) -> Ledger
         requires { base ≤ greatest_number }
         ensures { result ≡ record { base = base; log = []; awaited = None } }
@@ -52,7 +52,7 @@ impl Ledger {
         }
     }
 
-    /// The place behind which its decisions begin.
+    /// The place after which its decisions begin.
     pub fn base(&self) -> u64
         ensures { result ≡ self.now.base }
     {
@@ -87,7 +87,7 @@ impl Ledger {
         }
     }
 
-    /// Takes the room for one decision more, of the write with this id, which has to be the next that is pushed.
+    /// Takes the room for one more decision, of the write with this id, which has to be pushed next.
     pub fn reserve(&mut self, id: WriteId) -> Result<(), AllocError>
         requires settled { self.old.awaited ≡ None }
         requires new { IsOther id self.old.log }
@@ -104,7 +104,7 @@ impl Ledger {
         Ok(())
     }
 
-    /// One decision more behind the others, for which there is room.
+    /// One more decision after the others, for which there is room.
     pub fn push_reserved(&mut self, write: Entry)
         requires awaited { self.old.awaited ≡ Some write.id }
         requires decided { IsDecided write }
@@ -135,7 +135,7 @@ impl Ledger {
         }
     }
 
-    /// Forgets the decisions up to a place, which takes no memory.
+    /// Forgets the decisions up to a place; allocates nothing.
     pub fn forget(&mut self, place: u64)
         requires from { self.old.base ≤ place }
         requires to { place ≤ self.old.base + length self.old.log }
@@ -146,7 +146,7 @@ impl Ledger {
         }
     }
 
-    /// Copies of so many decisions behind a place.
+    /// Copies of this many decisions after a place.
     pub fn copies(&self, alloc: Global, from: u64, count: usize) -> Result<Vec<Entry>, AllocError>
         requires from { self.now.base ≤ from }
         requires to { from + count ≤ self.now.base + length self.now.log }

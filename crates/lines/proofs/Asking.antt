@@ -37,7 +37,7 @@ cut_at_last mark text at inside here after =
     subst (λ (b : ℕ). b ≢ mark) (sym (get_or-drop (at + 1) text k 0)) (after (at + 1 + k) (omega arith) (omega (arith, length-drop (at + 1) text)))) in
     (split_at text at 0 inside ∙ ap (λ (b : ℕ). take at text ++ b ∷ drop (suc at) text) here ∙ ap (λ (n : ℕ). take at text ++ mark ∷ drop n text) (sym next), lacks_everywhere mark (drop (at + 1) text) none)
 
--- a text and a place behind the last mark
+-- a text and a place after the last mark
 pub placed_of : (word text back : List ℕ) (place : ℕ) → word ≡ text ++ 61 ∷ back → Lacks 61 back → IsPlace place → back ≡ decimal place → IsPlacedOf word text (NotAfter place)
 placed_of word text back place whole none small is = record {
   wanted = small;
@@ -136,7 +136,7 @@ asks_empty [] none = asks_nothing [] (no_byte 63) (no_byte 33) (no_mark [] refl)
     no_byte mark more e = cc
 asks_empty (b ∷ word) none = absurd (omega arith)
 
--- what the place behind the last mark says of a word that begins with neither mark
+-- what the place after the last mark says of a word that begins with neither mark
 pub asks_placed : (word : List ℕ) (r : Option (Bor (List ℕ) × Want)) → ((rest : List ℕ) → word ≢ 63 ∷ rest) → ((rest : List ℕ) → word ≢ 33 ∷ rest)
     → MatchOption r (NamesNoPlace word) (λ parts. IsPlacedOf word parts.0.now parts.1) → MatchOption r (AsksNothing word) (λ parts. IsAskedOf word parts.0.now parts.1)
 asks_placed word None no_question no_exclamation h = asks_nothing word no_question no_exclamation h

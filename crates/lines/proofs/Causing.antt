@@ -52,7 +52,7 @@ some_words words none e was = grind (arith, nat_tests)
 
 -- ---- a write's words
 
--- words behind the changes that are no conditions
+-- words after the changes that are not conditions
 pub no_conditions : (ws front rest : List (List ℕ)) → ws ≡ front ++ rest → list_all is_marked front ≡ true → AreBehind rest → ((conditions : List (List ℕ)) → rest ≡ if_words conditions → ⊥)
     → (shape : Shape) → HasShape (codes "write" ∷ ws) shape → ⊥
 no_conditions ws front rest whole marked behind none =
@@ -102,7 +102,7 @@ write_refused cs ds changes conditions e few are asked no_shape no_size repeated
 write_refused cs ds changes conditions e few are asked no_shape no_size repeated (inr (inr was)) =
     subst (WriteCause cs ds) (sym was) (few, (changes, conditions, are, asked, λ a b. repeated was (a, b)))
 
--- tuplesets of which one is none
+-- tuplesets of which one is not valid
 pub sets_misspelled : (store : ℕ) (sets : List (List ℕ)) (Has : (List ℕ → Type 0) → Type 0) (e : Refusal) → length sets ≤ 16 → IsMisspelled (AreSets sets) e → ListCause store (length sets) ((qs : List Tupleset) × AreSets sets qs) Has e
 sets_misspelled store sets Has e few (inl r) = subst (ListCause store (length sets) ((qs : List Tupleset) × AreSets sets qs) Has) (sym r.0) (few, λ spelled. r.1 spelled.0 spelled.1)
 sets_misspelled store sets Has e few (inr was) = subst (ListCause store (length sets) ((qs : List Tupleset) × AreSets sets qs) Has) (sym was) tt
@@ -121,7 +121,7 @@ asked_cause store shards running words request shape BadRequest asked has h = ab
 asked_cause store shards running words request shape NoMemory asked has h = tt
 asked_cause store shards running words request shape _ asked has h = (request, shape, asked, has, h)
 
--- no order, and no request whose texts are not looked into: so no command
+-- no order, and no request, whatever its texts are: so no command
 no_shape : (store shards : ℕ) (running words : List (List ℕ)) → SpellNoOrder store shards running words → ((request : List (List ℕ)) (shape : Shape) → IsAsked running words request → HasShape request shape → ⊥) → HaveNoShape store shards running words
 no_shape store shards running words none shapeless = record { nothing = λ c h. refuse c h; no_request = shapeless }
   where
@@ -136,7 +136,7 @@ no_shape store shards running words none shapeless = record { nothing = λ c h. 
     refuse (command.Fail f) h = none (command.Fail f) tt h
     refuse (command.Reshard count) h = none (command.Reshard count) tt h
 
--- words behind `start` that are no name which is free, and a request
+-- words after `start` that are not a free name and a request
 pub start_refused : (store shards : ℕ) (running ws : List (List ℕ)) → ((name : List ℕ) (rest : List (List ℕ)) → ws ≡ name ∷ rest → IsFree running name → (shape : Shape) → HasShape rest shape → ⊥) → WordsCause store shards running (codes "start" ∷ ws) BadRequest
 start_refused store shards running ws none = no_shape store shards running (codes "start" ∷ ws) (start_is_no_order store shards running ws) (λ request shape asked has. refuse request shape asked has)
   where
@@ -144,19 +144,19 @@ start_refused store shards running ws none = no_shape store shards running (code
     refuse request shape (inl same) has = start_is_no_request ws shape (subst (λ l. HasShape l shape) (sym same) has)
     refuse request shape (inr (name, free, same)) has = none name request (tails (codes "start") (codes "start") ws (name ∷ request) same) free shape has
 
--- behind `start` and its name there is no request
+-- after `start` and its name there is no request
 pub start_shapeless : (store shards : ℕ) (running : List (List ℕ)) (words rest : List (Bor (List ℕ))) (name : Bor (List ℕ)) → words ≡ name ∷ rest → ((shape : Shape) → HasShape (texts rest) shape → ⊥)
     → WordsCause store shards running (codes "start" ∷ texts words) BadRequest
 start_shapeless store shards running words rest name cut none = start_refused store shards running (texts words)
     (λ other more e free shape has. none shape (subst (λ l. HasShape l shape) (sym (tails name.now other (texts rest) more (sym (ap texts cut) ∙ e))) has))
 
--- a request behind `start` that is refused
+-- a request after `start` that is refused
 pub start_cause : (store shards : ℕ) (running : List (List ℕ)) (words rest : List (Bor (List ℕ))) (name : Bor (List ℕ)) (shape : Shape) (e : Refusal) → words ≡ name ∷ rest → IsFree running name.now → HasShape (texts rest) shape → ShapeCause store shape e
     → WordsCause store shards running (codes "start" ∷ texts words) e
 start_cause store shards running words rest name shape e cut free has h =
     asked_cause store shards running (codes "start" ∷ texts words) (texts rest) shape e (inr (name.now, free, ap (λ l. codes "start" ∷ texts l) cut)) has h
 
--- words that are none of a command
+-- words that are not a command's
 pub words_refused : (store shards : ℕ) (running words : List (List ℕ)) → SpellNoOrder store shards running words → ((shape : Shape) → HasShape words shape → ⊥) → ((rest : List (List ℕ)) → words ≡ codes "start" ∷ rest → ⊥) → WordsCause store shards running words BadRequest
 words_refused store shards running words none shapeless no_start = no_shape store shards running words none (λ request shape asked has. refuse request shape asked has)
   where

@@ -24,7 +24,7 @@ first_of_count n h =
     let digit = digit_at (decimal n) 0 ((decimal_is_IsNumeral n small).0).1 some in
     (omega arith, omega (arith, digit.1), some)
 
--- digits behind no sign or zero are the text of their value
+-- digits after no sign or zero are the text of their value
 pub count_text : (bs : List ℕ) (n : ℕ) → 49 ≤ get_or bs 0 0 → IsNumeral 10 (without_leading_plus bs) → digits_value 10 (without_leading_plus bs) < 2 ^ 64 → n ≡ digits_value 10 (without_leading_plus bs) → bs ≡ decimal n
 count_text bs n first numeral small e =
     let none : get_or bs 0 0 ≢ 43 = omega arith in

@@ -5,7 +5,7 @@ use Rattle.std.proofs.lemmas.Bool.{both_ways}
 use Rattle.std.proofs.lemmas.Bool.Decides.{Decides-eqb}
 use Rattle.std.proofs.lemmas.Slice.Eq.{slice_eq-Decides}
 
--- what a comparison of texts says, where the second is known
+-- what a comparison of texts says, if the second is known
 pub same_text : (s t u : List ℕ) (r : Bool) → r ≡ pointwise eqb s t → t ≡ u → r ≡ true → s ≡ u
 same_text s t u r e tu was = (slice_eq-Decides Decides-eqb s t r e).0 was ∙ tu
 

@@ -28,7 +28,7 @@ each_condition (c ∷ cs) t w = All-cons (λ (x : Condition). IsTuple x.tuple ×
     (All-head IsTuple c.tuple (conditioned cs) t, All-head (λ (x : Condition). IsWanted x.want) c cs w)
     (each_condition cs (All-tail IsTuple c.tuple (conditioned cs) t) (All-tail (λ (x : Condition). IsWanted x.want) c cs w))
 
--- a word that is no change
+-- a word that is not a change
 pub changes_refused : (words : List (Bor (List ℕ))) (i : ℕ) (d : Bor (List ℕ)) (e : Refusal) → i < length words → IsMisspelled (IsChangeOf (get_or words i d).now) e → IsMisspelled (AreChanges (map (λ w. w.now) words)) e
 changes_refused words i d e h (inl r) = inl (r.0, λ changes a. let v = value_at (λ w. w.now) change_text (λ c. IsTuple (tuple_of c)) words changes i d h a.0 (each_change IsTuple changes a.1) in r.1 v.0 (v.1, v.2))
 changes_refused words i d e h (inr r) = inr r
@@ -40,7 +40,7 @@ condition_at : (words : List (Bor (List ℕ))) (cs : List Condition) (i : ℕ) (
     → (c : Condition) × IsAsked c × ((get_or words i d).now ≡ condition_text c)
 condition_at words cs i d h a = value_at (λ w. w.now) condition_text IsAsked words cs i d h a.0 (each_condition cs a.1 a.2)
 
--- a word that is no condition
+-- a word that is not a condition
 pub conditions_refused : (words : List (Bor (List ℕ))) (i : ℕ) (d : Bor (List ℕ)) (e : Refusal) → i < length words
     → IsMisspelled (IsConditionOf (get_or words i d).now) e → IsMisspelled (AreConditions (map (λ w. w.now) words)) e
 conditions_refused words i d e h (inl r) = inl (r.0, λ cs a. let v = condition_at words cs i d h a in r.1 v.0 (v.1.0, v.1.1, v.2))
@@ -60,7 +60,7 @@ all_at f P [] i d h each = absurd (omega arith)
 all_at f P (x ∷ xs) zero d h each = All-head P (f x) (map f xs) each
 all_at f P (x ∷ xs) (suc i) d h each = all_at f P xs i d (omega arith) (All-tail P (f x) (map f xs) each)
 
--- and of one text more
+-- and of one more text
 pub all_more : {A B : Type 0} (f : A → B) (P : B → Type 0) (xs : List A) (i : ℕ) (d : A) → i < length xs → All P (map f (take i xs)) → P (f (get_or xs i d)) → All P (map f (take (i + 1) xs))
 all_more {A} {B} f P xs i d h each here =
     subst (λ (t : List B). All P t) (sym (ap (map f) (take_more xs i d h) ∙ map-append f (take i xs) (get_or xs i d ∷ []))) (All-push P (map f (take i xs)) (f (get_or xs i d)) each here)

@@ -30,7 +30,7 @@ changes_marked (Delete t ∷ cs) = changes_marked cs
 asked_all : (cs : List Condition) → All (λ (c : Condition). IsWanted c.want) cs → All HasConditionShape (map condition_text cs)
 asked_all cs wanted = All-map HasConditionShape condition_text cs (All-weaker (λ (c : Condition). IsWanted c.want) (λ c. HasConditionShape (condition_text c)) (λ c w. (tuple_text c.tuple, c.want, w, refl)) cs wanted)
 
--- something stands behind a text
+-- something stands after a text
 behind_full : (a b : List ℕ) (c : ℕ) → 1 ≤ length (a ++ c ∷ b)
 behind_full a b c = omega (arith, length-append a (c ∷ b))
 

@@ -23,7 +23,7 @@ nothing_cut : (y : List ℕ) (b c : List (List ℕ)) → AreBehind b → is_mark
 nothing_cut y [] c behind marked e = no_more y c e
 nothing_cut y (x ∷ b) c behind marked e = differs is_marked y x marked behind (sym (heads x y b c e))
 
--- words are cut in one way behind the changes in front
+-- words are cut in one way after the changes in front
 pub cut_marked : (a b c d : List (List ℕ)) → list_all is_marked a ≡ true → list_all is_marked c ≡ true → AreBehind b → AreBehind d → a ++ b ≡ c ++ d → (a ≡ c) × (b ≡ d)
 cut_marked [] b [] d ma mc hb hd e = (refl, e)
 cut_marked [] b (y ∷ c) d ma mc hb hd e = absurd (nothing_cut y b (c ++ d) hb (first_marked y c mc) e)

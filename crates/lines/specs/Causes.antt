@@ -1,4 +1,4 @@
--- Why a line is refused: the first that is wrong with it, in the order length, shape, sizes, texts, tokens, repeats.
+-- Why a line is refused: the first thing wrong with it, in the order length, shape, sizes, texts, tokens, repeats.
 use Rattle.std.specs.Prelude.{◌≡◌, ◌≤◌, ◌<◌, ◌⊎◌, ℕ, List, ◌∷◌, length, codes, All}
 use Rattle.tuples.specs.declared.change.Change.{Change}
 use Rattle.tuples.specs.declared.change.Condition.{Condition}
@@ -44,7 +44,7 @@ IsFresh Meets latest = ⊥
 IsFresh Meets (at_least z) = Meets z
 IsFresh Meets (exact z) = Meets z
 
--- why a request in its shape is refused: by `ListCause`, where its texts may be so many, its texts are read, and its token is not
+-- why a request in its shape is refused: by `ListCause`, with how many texts it has, that they are read, and what is wrong with its token
 abbrev pub ShapeCause : ℕ → Shape → Refusal → Type 0
 ShapeCause store (write changes conditions) e = WriteCause changes conditions e
 ShapeCause store (read freshness sets) e = ListCause store (length sets) ((qs : List Tupleset) × AreSets sets qs) (λ IsBad. IsFresh IsBad freshness) e
@@ -53,11 +53,11 @@ ShapeCause store (watch from limit namespaces) e = ListCause store (length names
 
 -- ---- a line
 
--- the words are those of the request, or these behind start and a free name
+-- the words are those of the request, or these after start and a free name
 abbrev pub IsAsked : List (List ℕ) → List (List ℕ) → List (List ℕ) → Type 0
 IsAsked running words request = (words ≡ request) ⊎ ((name : List ℕ) × IsFree running name × (words ≡ codes "start" ∷ name ∷ request))
 
--- the words are no command's, and no request's whose texts are not looked into
+-- the words are not a command's, nor a request's, whatever its texts are
 pub record HaveNoShape (store shards : ℕ) (running words : List (List ℕ)) : Type 0 where
   pub nothing : (c : Command) → SpellsWords store shards running words c → ⊥
   pub no_request : (request : List (List ℕ)) (shape : Shape) → IsAsked running words request → HasShape request shape → ⊥

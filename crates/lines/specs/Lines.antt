@@ -27,7 +27,7 @@ request_words store (Read freshness sets) = codes "read" ∷ fresh_text store fr
 request_words store (Check freshness tuple) = codes "check" ∷ fresh_text store freshness ∷ tuple_text tuple ∷ []
 request_words store (Watch from limit namespaces) = codes "watch" ∷ zookie_text store from ∷ decimal limit ∷ namespaces.items
 
--- one at least, and as many as a request may have
+-- at least one, and at most as many as a request may have
 abbrev pub AreSome : {A : Type 0} → List A → Type 0
 AreSome xs = (1 ≤ length xs) × (length xs ≤ max_asked)
 
@@ -41,7 +41,7 @@ IsRequest (Watch from limit namespaces) = (from < 2 ^ 64) × IsLimit limit × Ar
 abbrev pub SpellsRequest : ℕ → List (List ℕ) → Request → Type 0
 SpellsRequest store words r = (words ≡ request_words store r) × IsRequest r
 
--- a name that no flow has which runs
+-- a name that no running flow has
 abbrev pub IsFree : List (List ℕ) → List ℕ → Type 0
 IsFree running name = IsFlowName name × All (λ other. other ≡ name → ⊥) running
 
@@ -52,7 +52,7 @@ handling_words name (handling.Until call) = codes "until" ∷ name ∷ call_text
 handling_words name handling.Run = codes "run" ∷ name ∷ []
 handling_words name handling.Cancel = codes "cancel" ∷ name ∷ []
 
--- the flow is told by its number among those that run
+-- the flow is named by its number among those that run
 abbrev pub SpellsHandling : List (List ℕ) → List (List ℕ) → ℕ → Handling → Type 0
 SpellsHandling running words flow h = (name : List ℕ) × (slice_get running flow ≡ Some name) × (words ≡ handling_words name h)
 
@@ -88,7 +88,7 @@ SpellsFailure shards words f = (words ≡ codes "fail" ∷ bank_text f.node f.ba
 abbrev pub SpellsReshard : List (List ℕ) → ℕ → Type 0
 SpellsReshard words count = (words ≡ codes "reshard" ∷ decimal count ∷ []) × IsShardCount count
 
--- the words of a line spell the command, at a store of so many shards where flows of these names run; a line that is passed has none
+-- the words of a line spell the command, at a store of this many shards if flows of these names run; a line that is passed has none
 abbrev pub SpellsWords : ℕ → ℕ → List (List ℕ) → List (List ℕ) → Command → Type 0
 SpellsWords store shards running words command.Pass = ⊥
 SpellsWords store shards running words (command.Ask r) = SpellsRequest store words r
@@ -100,7 +100,7 @@ SpellsWords store shards running words (command.Restart node) = SpellsRestart sh
 SpellsWords store shards running words (command.Fail f) = SpellsFailure shards words f
 SpellsWords store shards running words (command.Reshard count) = SpellsReshard words count
 
--- a command that is no request
+-- a command that is not a request
 abbrev pub IsOrder : Command → Type 0
 IsOrder (command.Ask r) = ⊥
 IsOrder (command.Start name r) = ⊥

@@ -1,4 +1,4 @@
--- The words of a request, whose texts may be those of no tuple and of no token.
+-- The words of a request, whose texts may be of no tuple and of no token.
 use Rattle.std.specs.Prelude.{◌≡◌, ◌≤◌, ℕ, true, List, [], ◌∷◌, ◌++◌, length, codes, All, Option, Some, None}
 use Rattle.std.specs.List.{list_all}
 use Rattle.std.specs.Fmt.{decimal}
@@ -34,13 +34,13 @@ shape_words (read freshness sets) = codes "read" ∷ fresh_word freshness ∷ se
 shape_words (check freshness tuple) = codes "check" ∷ fresh_word freshness ∷ tuple ∷ []
 shape_words (watch from limit namespaces) = codes "watch" ∷ from ∷ decimal limit ∷ namespaces
 
--- The parts of a write: one change at least, each with its mark, and conditions in their shape.
+-- The parts of a write: at least one change, each with its mark, and conditions in their shape.
 pub record ArePartsShaped (changes conditions : List (List ℕ)) : Type 0 where
   pub some : 1 ≤ length changes
   pub marked : list_all is_marked changes ≡ true
   pub asked : All HasConditionShape conditions
 
--- one text at least, none of them empty
+-- at least one text, none of them empty
 abbrev pub AreListed : List (List ℕ) → Type 0
 AreListed words = (1 ≤ length words) × AreFull words
 

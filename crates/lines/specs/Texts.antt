@@ -40,7 +40,7 @@ IsWanted (NotAfter place) = place < 2 ^ 63
 IsWanted Exists = Unit {0}
 IsWanted Absent = Unit {0}
 
--- latest, >=Z or =Z; a place is told by the token of this store
+-- latest, >=Z or =Z; a place is written as the token of this store
 abbrev pub fresh_text : ℕ → Freshness → List ℕ
 fresh_text store Latest = codes "latest"
 fresh_text store (AtLeast place) = codes ">=" ++ zookie_text store place
@@ -57,7 +57,7 @@ abbrev pub node_text : NodeName → List ℕ
 node_text node.Coordinator = codes "c"
 node_text (node.Shard shard) = decimal shard
 
--- a store of so many shards has the node
+-- a store of this many shards has the node
 abbrev pub IsNode : ℕ → NodeName → Type 0
 IsNode shards node.Coordinator = Unit {0}
 IsNode shards (node.Shard shard) = shard < shards
@@ -113,7 +113,7 @@ IsLimit n = (1 ≤ n) × (n ≤ max_watched)
 abbrev pub IsShardCount : ℕ → Type 0
 IsShardCount n = (1 ≤ n) × (n ≤ max_shards)
 
--- the value of the grammar that has this text, or none has it
+-- the value of the grammar that has this text, or that there is none
 abbrev pub ReadsText : {A : Type 0} → (A → Type 0) → (A → List ℕ) → List ℕ → Option A → Type 0
 ReadsText IsValid text_of text None = SpellsNone IsValid text_of text
 ReadsText IsValid text_of text (Some a) = IsValid a × (text ≡ text_of a)

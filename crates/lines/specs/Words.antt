@@ -18,7 +18,7 @@ words_of line = slice_split (λ b. b == 32) line
 abbrev pub texts : List (Bor (List ℕ)) → List (List ℕ)
 texts = map (λ (w : Bor (List ℕ)). w.now)
 
--- if and these words; nothing where there are none
+-- if and these words; nothing if there are none
 abbrev pub if_words : List (List ℕ) → List (List ℕ)
 if_words [] = []
 if_words (word ∷ words) = codes "if" ∷ word ∷ words
@@ -32,7 +32,7 @@ abbrev pub is_marked : List ℕ → Bool
 is_marked [] = false
 is_marked (b ∷ text) = (b == 43) || (b == 45)
 
--- no first word, or one that is no change
+-- no first word, or one that is not a change
 abbrev pub AreBehind : List (List ℕ) → Type 0
 AreBehind [] = Unit {0}
 AreBehind (word ∷ words) = is_marked word ≡ false

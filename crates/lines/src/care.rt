@@ -10,7 +10,7 @@ use crate::words::one_behind;
 use names::Care;
 use tuples::Shards;
 
-/// The care of these words, in a store of so many shards.
+/// The care of these words, in a store of this many shards.
 pub(crate) fn parse_care(words: &[&[u8]], shards: Shards) -> Option<Care>
     ensures { MatchOption result ((care : AnyCare) → SpellsCare shards (texts words.now) care → ⊥) (SpellsCare shards (texts words.now)) }
 {

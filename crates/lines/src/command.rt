@@ -38,17 +38,17 @@ pub enum Command {
     Restart(NodeName),
     /// `fail 0a 4 a5`
     Fail(Failure),
-    /// `reshard 3`: the store is carried over to one of so many shards.
+    /// `reshard 3`: the store is carried over to one of this many shards.
     Reshard(Shards),
 }
 
 impl Command {
-    /// The command that the line spells, at the store with this id and so many shards, where flows of these names run; the line comes
+    /// The command that the line spells, at the store with this id and this many shards, if flows of these names run; the line comes
     /// without its line feed. A refusal is that of the first thing wrong, in this order: `TooLarge` for a line past the limit, `BadRequest`
-    /// where its words are in no command's shape, which a name that is not free, or of no flow, or a shard that is not there is not either,
-    /// `TooLarge` for more changes, conditions, tuplesets or namespaces than the limits, `BadTuple` where a text is none, `BadZookie` or
-    /// `WrongStore` for a token that is none of this store, `Repeated` where two changes or two conditions name one tuple. `NoMemory` may
-    /// come over any line that is not passed.
+    /// if its words are in no command's shape, or have a name that is not free or of no flow, or a shard that is not there, `TooLarge` for
+    /// more changes, conditions, tuplesets or namespaces than the limits, `BadTuple` if a text is not in its grammar, `BadZookie` or
+    /// `WrongStore` for a token that is not of this store, `Repeated` if two changes or two conditions name one tuple. `NoMemory` may come
+    /// for any line that is not passed.
     pub fn parse(
         alloc: Global,
         line: &[u8],
@@ -103,7 +103,7 @@ fn parse_words(
     Ok(order)
 }
 
-// The words behind `start`.
+// The words after `start`.
 fn parse_start(
     alloc: Global,
     words: &[&[u8]],
@@ -126,7 +126,7 @@ fn parse_start(
     Ok(Command::Start(name, request_of(alloc, shape, store)?))
 }
 
-// A command that is no request.
+// A command that is not a request.
 fn parse_order(words: &[&[u8]], shards: Shards, running: &[Name]) -> Option<Command>
     ensures { (store : ℕ) → MatchOption result (SpellNoOrder store shards running.now (texts words.now)) (SpellsWords store shards running.now (texts words.now)) }
 {

@@ -57,7 +57,7 @@ fn split_condition(word: &[u8]) -> Option<(&[u8], Want)>
     }
 }
 
-// The text of the tuple and the place behind the last `=`: an id may have that byte too.
+// The text of the tuple and the place after the last `=`: an id may have that byte too.
 fn split_place(word: &[u8]) -> Option<(&[u8], Want)>
     ensures { MatchOption result (NamesNoPlace word.now) (λ parts. IsPlacedOf word.now parts.0.now parts.1) }
 {

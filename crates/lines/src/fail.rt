@@ -18,12 +18,12 @@ use tuples::Shards;
 pub struct Failure {
     pub node: NodeName,
     pub bank: Bank,
-    /// Which call fails from now on, from 1.
+    /// Which call fails from now on, counted from 1.
     pub n: u64,
     pub tear: Tear,
 }
 
-/// The failure of these words, in a store of so many shards.
+/// The failure of these words, in a store of this many shards.
 pub(crate) fn parse_fail(words: &[&[u8]], shards: Shards) -> Option<Failure>
     ensures { MatchOption result ((f : AnyFailure) → SpellsFailure shards (texts words.now) f → ⊥) (SpellsFailure shards (texts words.now)) }
 {

@@ -22,7 +22,7 @@ pub enum Handling {
     Cancel,
 }
 
-/// What these words do with which flow, by its number among those that run.
+/// What these words do, and with which flow, by its number among those that run.
 pub(crate) fn parse_handling(words: &[&[u8]], running: &[Name]) -> Option<(usize, Handling)>
     ensures { MatchOption result ((flow : ℕ) (h : AnyHandling) → SpellsHandling running.now (texts words.now) flow h → ⊥) (λ p. SpellsHandling running.now (texts words.now) p.0 p.1) }
 {

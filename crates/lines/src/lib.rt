@@ -1,6 +1,6 @@
 //! The lines of a script, as commands.
 //!
-//! Keeps: a command is answered only for a line that spells it, and a line that spells none is refused for the first thing wrong with it.
+//! Keeps: a command is returned only for a line that spells it, and a line that spells none is refused for the first thing wrong with it.
 //! Never: carries a command out, or knows more of a flow than its name.
 //! Callers rely on: a request is in its grammar and within its limits, and a shard's number is below the number of shards.
 //!

@@ -11,7 +11,7 @@ use std::marker::Model;
 // The most bytes of a name.
 const MAX_NAME: usize = 16;
 
-/// The name of a flow: 1 to 16 bytes of `a-z` and `0-9`, which contracts see as their list.
+/// The name of a flow: 1 to 16 bytes of `a-z` and `0-9`; contracts see them as their list.
 #[derive(Drop)]
 pub struct Name {
     bytes: Vec<u8>,

@@ -12,7 +12,7 @@ use journal::Bank;
 use names::NodeName;
 use tuples::Shards;
 
-/// The node with this text, in a store of so many shards.
+/// The node with this text, in a store of this many shards.
 pub(crate) fn parse_node(text: &[u8], shards: Shards) -> Option<NodeName>
     ensures { ReadsText (IsNode shards) node_text text.now result }
 {
@@ -22,7 +22,7 @@ pub(crate) fn parse_node(text: &[u8], shards: Shards) -> Option<NodeName>
     Some(NodeName::Shard(parse_shard(text, shards)?))
 }
 
-/// The number of a shard, in a store of so many.
+/// The number of a shard, in a store of this many.
 pub(crate) fn parse_shard(text: &[u8], shards: Shards) -> Option<u8>
     ensures { ReadsText (λ n. n < shards) decimal text.now result }
 {

@@ -22,7 +22,7 @@ pub(crate) fn parse_place(text: &[u8]) -> Option<u64>
 pub(crate) fn parse_count(text: &[u8]) -> Option<u64>
     ensures { ReadsText IsCount decimal text.now result }
 {
-    // A sign or a zero in front is no number here, and `parse` would take either.
+    // A sign or a leading zero is no number here, but `parse` would take either.
     if !begins_a_count(text) {
         return None;
     }
@@ -42,7 +42,7 @@ fn begins_a_count(text: &[u8]) -> bool
     }
 }
 
-// As `str::parse` reads it: a plus may stand in front, and zeros.
+// As `str::parse` reads it, which takes a leading plus and leading zeros.
 fn parse_decimal(text: &[u8]) -> Option<u64>
     ensures { MatchOption result ((n : ℕ) → n < 2 ^ 64 → text.now ≡ decimal n → ⊥) (λ n. let digits = without_leading_plus text.now in IsNumeral 10 digits × (digits_value 10 digits < 2 ^ 64) × (n ≡ digits_value 10 digits)) }
 {

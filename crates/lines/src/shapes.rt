@@ -72,7 +72,7 @@ fn is_marked(word: &[u8]) -> bool
     }
 }
 
-// The conditions of these words, which stand behind the changes: one at least behind `if`, and none where there are no words.
+// The conditions of these words, which stand after the changes: at least one after `if`, and none if there are no words.
 fn words_behind_if<'a>(words: &'a [&'a [u8]]) -> Option<&'a [&'a [u8]]>
     ensures { MatchOption result ((conditions : List (List ℕ)) → texts words.now ≡ if_words conditions → ⊥) (λ conditions. texts words.now ≡ if_words (texts conditions.now)) }
 {
@@ -154,7 +154,7 @@ fn fresh_of<'a>(word: &'a [u8]) -> Option<FreshShape<'a>>
     }
 }
 
-// One word at least, none of them empty.
+// At least one word, none of them empty.
 fn are_listed(words: &[&[u8]]) -> bool
     ensures { IsTrue result ↔ AreListed (texts words.now) }
 {

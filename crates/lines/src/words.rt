@@ -4,14 +4,14 @@ ghost use Rattle.lines.specs.Words.{texts, words_of};
 
 use std::alloc::{AllocError, Global};
 
-/// What stands between the spaces of a line: one word at least, and an empty one where a space has no word beside it.
+/// What stands between the spaces of a line: at least one word, and an empty one wherever a space has no word beside it.
 pub(crate) fn split_words(alloc: Global, line: &[u8]) -> Result<Vec<&[u8]>, AllocError>
     ensures { IfOk result (λ words. texts words.items ≡ words_of line.now) }
 {
     line.split(|byte| *byte == b' ').collect(alloc)
 }
 
-/// The words behind the first, where that is this one.
+/// The words after the first, if that is this one.
 pub(crate) fn behind<'a>(words: &'a [&'a [u8]], name: &[u8]) -> Option<&'a [&'a [u8]]>
     ensures { MatchOption result ((rest : List (List ℕ)) → texts words.now ≡ name.now ∷ rest → ⊥) (λ rest. texts words.now ≡ name.now ∷ texts rest.now) }
 {
@@ -21,7 +21,7 @@ pub(crate) fn behind<'a>(words: &'a [&'a [u8]], name: &[u8]) -> Option<&'a [&'a 
     if *first == name { Some(rest) } else { None }
 }
 
-/// The one word behind this first one.
+/// The one word after this first one.
 pub(crate) fn one_behind<'a>(words: &'a [&'a [u8]], name: &[u8]) -> Option<&'a [u8]>
     ensures { MatchOption result ((word : List ℕ) → texts words.now ≡ name.now ∷ word ∷ [] → ⊥) (λ word. texts words.now ≡ name.now ∷ word.now ∷ []) }
 {
@@ -31,7 +31,7 @@ pub(crate) fn one_behind<'a>(words: &'a [&'a [u8]], name: &[u8]) -> Option<&'a [
     Some(*word)
 }
 
-/// The two words behind this first one.
+/// The two words after this first one.
 pub(crate) fn two_behind<'a>(words: &'a [&'a [u8]], name: &[u8]) -> Option<(&'a [u8], &'a [u8])>
     ensures { MatchOption result ((a b : List ℕ) → texts words.now ≡ name.now ∷ a ∷ b ∷ [] → ⊥) (λ p. texts words.now ≡ name.now ∷ p.0.now ∷ p.1.now ∷ []) }
 {
@@ -41,7 +41,7 @@ pub(crate) fn two_behind<'a>(words: &'a [&'a [u8]], name: &[u8]) -> Option<(&'a 
     Some((*first, *second))
 }
 
-/// The three words behind this first one.
+/// The three words after this first one.
 pub(crate) fn three_behind<'a>(
     words: &'a [&'a [u8]],
     name: &[u8],

@@ -24,10 +24,11 @@ use Rattle.device.specs.declared.device.Device as Device
 use Rattle.published.specs.contracts.words.Published as Published
 use Rattle.sides.specs.declared.room.Room as Room
 use Rattle.sides.specs.contracts.attempts.Attempt as Attempt
-use Rattle.flights.specs.contracts.launch.Launch as Launch
+use Rattle.sides.specs.contracts.launch.Launch as Launch
+use Rattle.sides.specs.contracts.lists.Lists as Lists
 use Rattle.flights.specs.contracts.launch.LaunchLog as LaunchLog
 use Rattle.flights.specs.contracts.coordinator_cell.CoordinatorCell as CoordinatorCell
-use Rattle.locked.specs.contracts.caller.Caller as Caller
+use Rattle.sides.specs.contracts.caller.Caller as Caller
 use Rattle.locked.specs.contracts.store.Store as Store
 use Rattle.locked.proofs.Crosses.{entry as entry_send, log_place_send, tuple as tuple_send}
 use Rattle.locked.proofs.Looked.{cell_sync, entry as entry_sync, tuple as tuple_sync}
@@ -122,18 +123,23 @@ attempt_sync = let a = entry_sync in search (sendable, crosses, maps_cross, sets
 launch_log_send : (B : RattleType) (h : Room.Ghosts B.Denot) → IsSend B → IsSend (LaunchLog.the_row B h)
 launch_log_send B h b = let a = launch_send in search (sendable, crosses, maps_cross, sets_cross, seat.the_send) depth 400 fits 50000
 
-pub store_sync : (D B G : RattleType) (g : Device.Ghosts D.Denot) (h : Room.Ghosts B.Denot) → IsSend D → IsSync D → IsSend B → IsSync B → IsSync G → IsSync (Store.the_row D B G g h)
-store_sync D B G g h d e b c y =
-    let n = log_place_send D B g h d b in
-    let p = cell_sync D B g h d e b c in
-    let l = launch_log_send B h b in
+lists_sync : (B : RattleType) (h : Room.Ghosts B.Denot) → IsSync B → IsSync (Lists.the_row B h)
+lists_sync B h c =
     let es = entry_send in
     let ey = entry_sync in
     let fs = launch_send in
     let fy = launch_sync in
     let ts = attempt_send in
     let ty = attempt_sync in
-    let all : AllSync (declared.fields (Store.the_type D B G g h)) = (y, (search (lease_send, lease_sync, shared.the_send, shared.the_sync, sendable, crosses) depth 400 fits 50000, (search (lease_send, lease_sync, shared.the_send, shared.the_sync, sendable, crosses) depth 400 fits 50000, (search (lease_send, lease_sync, shared.the_send, shared.the_sync, sendable, crosses) depth 400 fits 50000, (search (lease_send, lease_sync, shared.the_send, shared.the_sync, sendable, crosses) depth 400 fits 50000, (search (lease_send, lease_sync, shared.the_send, shared.the_sync, sendable, crosses) depth 400 fits 50000, (search (lease_send, lease_sync, shared.the_send, shared.the_sync, sendable, crosses) depth 400 fits 50000, (search (lease_send, lease_sync, shared.the_send, shared.the_sync, sendable, crosses) depth 400 fits 50000, (search (lease_send, lease_sync, shared.the_send, shared.the_sync, sendable, crosses) depth 400 fits 50000, (search (lease_send, lease_sync, shared.the_send, shared.the_sync, sendable, crosses) depth 400 fits 50000, (search (lease_send, lease_sync, shared.the_send, shared.the_sync, sendable, crosses) depth 400 fits 50000, tt))))))))))) in
+    search (lease_send, lease_sync, shared.the_send, shared.the_sync, sendable, crosses) depth 400 fits 50000
+
+pub store_sync : (D B G : RattleType) (g : Device.Ghosts D.Denot) (h : Room.Ghosts B.Denot) → IsSend D → IsSync D → IsSend B → IsSync B → IsSync G → IsSync (Store.the_row D B G g h)
+store_sync D B G g h d e b c y =
+    let n = log_place_send D B g h d b in
+    let p = cell_sync D B g h d e b c in
+    let l = launch_log_send B h b in
+    let w = lists_sync B h c in
+    let all : AllSync (declared.fields (Store.the_type D B G g h)) = (y, (search (lease_send, lease_sync, shared.the_send, shared.the_sync, sendable, crosses) depth 400 fits 50000, (search (lease_send, lease_sync, shared.the_send, shared.the_sync, sendable, crosses) depth 400 fits 50000, (search (lease_send, lease_sync, shared.the_send, shared.the_sync, sendable, crosses) depth 400 fits 50000, (search (lease_send, lease_sync, shared.the_send, shared.the_sync, sendable, crosses) depth 400 fits 50000, (search (lease_send, lease_sync, shared.the_send, shared.the_sync, sendable, crosses) depth 400 fits 50000, (search (lease_send, lease_sync, shared.the_send, shared.the_sync, sendable, crosses) depth 400 fits 50000, (search (lease_send, lease_sync, shared.the_send, shared.the_sync, sendable, crosses) depth 400 fits 50000, (search (lease_send, lease_sync, shared.the_send, shared.the_sync, sendable, crosses) depth 400 fits 50000, tt))))))))) in
     recorded_sync _ _ _ (Store.the_type D B G g h).to_one (struct_sync (declared.shape (Store.the_type D B G g h)) all)
 
 pub caller_send : (B : RattleType) (h : Room.Ghosts B.Denot) → IsSend B → IsSend (Caller.the_row B h)

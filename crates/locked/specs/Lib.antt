@@ -1,4 +1,3 @@
-pub mod Serving
 pub mod Turning
 pub mod Answering
 pub mod Writing

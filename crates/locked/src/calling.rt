@@ -46,14 +46,14 @@ impl<D: Device, B: Room, G: Gate> Store<D, B, G> {
     ) -> bool
         requires of { F.is_of B.shards flow.old }
         requires goes_on { is_some (F.next_named flow.old) ≡ true }
-        requires hands { B.rests → HandsWhatIsSeen F.asks caller.old flow.old }
-        ensures turns { Turns F.asks B.rests F.gives B.shards caller.old caller.new told.old told.new flow.old flow.new }
+        requires hands { B.rests → HandsWhatIsSeen F.asks caller.old.pass flow.old }
+        ensures turns { Turns F.asks B.rests F.gives B.shards caller.old.pass caller.new.pass told.old told.new flow.old flow.new }
         ensures of { F.is_of B.shards flow.new }
     {
         let Some(call) = flow.next_call() else {
             return false;
         };
-        let reply = self.make(rt, &mut caller.pass, &mut caller.tried, told, call);
+        let reply = self.make(rt, caller, told, call);
         let is_behind = is_behind(&reply);
         flow.give(reply);
         is_behind

@@ -24,9 +24,9 @@ impl<D: Device, B: Room, G: Gate> Store<D, B, G> {
         mut flow: CareFlow,
     ) -> CareFlow
         requires of { IsThere B.shards flow }
-        requires held { B.rests → IsCareOf caller.old.seen caller.old.horizon flow }
+        requires held { B.rests → IsCareOf caller.old.pass.seen caller.old.pass.horizon flow }
         requires goes { GoesOrEnds (has_next flow) (end_of flow) }
-        ensures caller { IsLater caller.old caller.new }
+        ensures caller { IsLater caller.old.pass caller.new.pass }
         ensures ended { is_some (end_of result) ≡ true }
     {
         for _ in rt.forever() {
@@ -49,7 +49,7 @@ impl<D: Device, B: Room, G: Gate> Store<D, B, G> {
         care: Care,
     ) -> CareEnd
         requires there { IsThere B.shards (begun B.shards care) }
-        ensures caller { IsLater caller.old caller.new }
+        ensures caller { IsLater caller.old.pass caller.new.pass }
     {
         let flow = CareFlow::new(alloc, self.count, care);
         let flow = self.run_care(rt, caller, told, flow);

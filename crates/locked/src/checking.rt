@@ -64,10 +64,10 @@ impl<D: Device, B: Room, G: Gate> Store<D, B, G> {
         userset: &Userset,
         user: User,
     ) -> Result<CheckFlow, AllocError>
-        ensures caller { IsLater caller.old caller.new }
-        ensures runs { IfOk result (λ flow. CheckRuns B.rests B.shards caller.new.seen freshness (length caller.old.seen) userset.now user flow) }
+        ensures caller { IsLater caller.old.pass caller.new.pass }
+        ensures runs { IfOk result (λ flow. CheckRuns B.rests B.shards caller.new.pass.seen freshness (length caller.old.pass.seen) userset.now user flow) }
         ensures rests { IfOk result (λ flow. flow.seen.awaited ≡ None) }
-        ensures reason { (marks : List Bool) → IfOk result (λ flow. CheckHasReason marks flow.fresh caller.new.seen caller.new.horizon userset.now flow.seen) }
+        ensures reason { (marks : List Bool) → IfOk result (λ flow. CheckHasReason marks flow.fresh caller.new.pass.seen caller.new.pass.horizon userset.now flow.seen) }
     {
         let count = self.shards();
         match self.known_place(caller, freshness) {
@@ -86,15 +86,15 @@ impl<D: Device, B: Room, G: Gate> Store<D, B, G> {
         mut flow: CheckFlow,
     ) -> CheckFlow
         requires of { flow.shards ≡ B.shards }
-        requires held { B.rests → IsCheckOf caller.old.seen flow.fresh userset.now flow.user flow.seen }
+        requires held { B.rests → IsCheckOf caller.old.pass.seen flow.fresh userset.now flow.user flow.seen }
         requires rests { flow.seen.awaited ≡ None }
-        requires reason { B.rests → CheckHasReason told.old flow.fresh caller.old.seen caller.old.horizon userset.now flow.seen }
-        ensures caller { IsLater caller.old caller.new }
-        ensures held { B.rests → IsCheckOf caller.new.seen flow.fresh userset.now flow.user result.seen }
+        requires reason { B.rests → CheckHasReason told.old flow.fresh caller.old.pass.seen caller.old.pass.horizon userset.now flow.seen }
+        ensures caller { IsLater caller.old.pass caller.new.pass }
+        ensures held { B.rests → IsCheckOf caller.new.pass.seen flow.fresh userset.now flow.user result.seen }
         ensures user { result.user ≡ flow.user }
         ensures named { result.next_name ≡ None }
         ensures rests { result.seen.awaited ≡ None }
-        ensures reason { B.rests → CheckHasReason told.new flow.fresh caller.new.seen caller.new.horizon userset.now result.seen }
+        ensures reason { B.rests → CheckHasReason told.new flow.fresh caller.new.pass.seen caller.new.pass.horizon userset.now result.seen }
     {
         let _asked = userset;
         let mut is_behind = false;
@@ -119,9 +119,9 @@ impl<D: Device, B: Room, G: Gate> Store<D, B, G> {
         userset: &Userset,
         user: User,
     ) -> Result<(CheckEnd, User), AllocError>
-        ensures caller { IsLater caller.old caller.new }
-        ensures answer { B.rests → IfOk result (λ made. CheckEnds caller.new.seen freshness (length caller.old.seen) userset.now user (ending_of made.0)) }
-        ensures refused { B.rests → IfOk result (λ made. CheckRefuses told.new caller.new.seen caller.new.horizon freshness (length caller.old.seen) userset.now (ending_of made.0)) }
+        ensures caller { IsLater caller.old.pass caller.new.pass }
+        ensures answer { B.rests → IfOk result (λ made. CheckEnds caller.new.pass.seen freshness (length caller.old.pass.seen) userset.now user (ending_of made.0)) }
+        ensures refused { B.rests → IfOk result (λ made. CheckRefuses told.new caller.new.pass.seen caller.new.pass.horizon freshness (length caller.old.pass.seen) userset.now (ending_of made.0)) }
         ensures user { IfOk result (λ made. made.1 ≡ user) }
     {
         match self.begin_check(alloc, caller, freshness, userset, user) {
@@ -148,10 +148,10 @@ impl<D: Device, B: Room, G: Gate> Store<D, B, G> {
         userset: &Userset,
         user: User,
     ) -> CheckEnd
-        ensures caller { IsLater caller.old caller.new }
-        ensures answer { B.rests → CheckEnds caller.new.seen freshness (length caller.old.seen) userset.now user (ending_of result) }
-        ensures refused { B.rests → CheckRefuses told.new caller.new.seen caller.new.horizon freshness (length caller.old.seen) userset.now (ending_of result) }
-        ensures passed { IsPassed freshness caller.old.horizon → result ≡ CheckEnd.Refused Refusal.Collected }
+        ensures caller { IsLater caller.old.pass caller.new.pass }
+        ensures answer { B.rests → CheckEnds caller.new.pass.seen freshness (length caller.old.pass.seen) userset.now user (ending_of result) }
+        ensures refused { B.rests → CheckRefuses told.new caller.new.pass.seen caller.new.pass.horizon freshness (length caller.old.pass.seen) userset.now (ending_of result) }
+        ensures passed { IsPassed freshness caller.old.pass.horizon → result ≡ CheckEnd.Refused Refusal.Collected }
         ensures collected { result ≡ CheckEnd.Refused Refusal.Collected → IsJustOne freshness }
     {
         if self.has_passed(caller, freshness) {
@@ -165,6 +165,7 @@ impl<D: Device, B: Room, G: Gate> Store<D, B, G> {
                         drop(asked);
                         return end;
                     }
+                    told.begin_again();
                     user = asked;
                 }
                 Err(_) => return CheckEnd::Refused(Refusal::NoMemory),

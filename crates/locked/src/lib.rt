@@ -10,7 +10,6 @@
 //! The server and the check of threads use it. Start at `specs/Answering.antt`, how an answer ends, and then `Store`.
 #![tactic(auto)]
 
-mod caller;
 mod calling;
 mod caring;
 mod checking;
@@ -27,12 +26,14 @@ mod shortening;
 mod store;
 mod tending;
 mod watching;
+mod window;
 mod writing;
 
-pub use caller::Caller;
 pub use gate::{Gate, Open};
 pub use looking::LookedOver;
 pub use notice::{Notice, Unnoticed};
 pub use opening_laws::new_devices_rest;
 pub use parts::Parts;
+pub use sides::Caller;
 pub use store::Store;
+pub use window::Window;

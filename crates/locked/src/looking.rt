@@ -46,11 +46,11 @@ impl<D: Device, B: Room, G: Gate> Store<D, B, G> {
         shard: u8,
     ) -> Result<u64, Refusal>
         requires there { shard < B.shards }
-        ensures caller { IsLater caller.old caller.new }
+        ensures caller { IsLater caller.old.pass caller.new.pass }
         ensures refused { IfErr result (λ e. HasTold told.new e) }
     {
         let call = NodeCall::Shard(shard, ShardCall::Learned);
-        match self.make(rt, &mut caller.pass, &mut caller.tried, told, call) {
+        match self.make(rt, caller, told, call) {
             Reply::Shard(ShardReply::Learned(answer)) => answer,
             _ => unreachable!(),
         }
@@ -64,7 +64,7 @@ impl<D: Device, B: Room, G: Gate> Store<D, B, G> {
         told: &mut Told,
         places: &mut Vec<u64>,
     ) -> Result<(), Refusal>
-        ensures caller { IsLater caller.old caller.new }
+        ensures caller { IsLater caller.old.pass caller.new.pass }
         ensures all { OnOk result (vec_len places.new ≡ vec_len places.old + B.shards) }
         ensures refused { IfErr result (λ e. HasTold told.new e ⊎ (e ≡ AnyRefusal.NoMemory)) }
     {
@@ -84,10 +84,10 @@ impl<D: Device, B: Room, G: Gate> Store<D, B, G> {
         caller: &mut Caller<B>,
         told: &mut Told,
     ) -> Result<LookedOver, Refusal>
-        ensures caller { IsLater caller.old caller.new }
+        ensures caller { IsLater caller.old.pass caller.new.pass }
         ensures all { IfOk result (λ found. vec_len found.learned ≡ B.shards) }
-        ensures known { IfOk result (λ found. (found.horizon ≤ found.latest) × (found.latest ≤ length caller.new.seen)) }
-        ensures rises { IfOk result (λ found. (caller.old.horizon ≤ found.horizon) × (length caller.old.seen ≤ found.latest)) }
+        ensures known { IfOk result (λ found. (found.horizon ≤ found.latest) × (found.latest ≤ length caller.new.pass.seen)) }
+        ensures rises { IfOk result (λ found. (caller.old.pass.horizon ≤ found.horizon) × (length caller.old.pass.seen ≤ found.latest)) }
         ensures refused { IfErr result (λ e. HasTold told.new e ⊎ (e ≡ AnyRefusal.NoMemory)) }
     {
         let horizon = self.horizon(caller);

@@ -11,47 +11,42 @@ ghost use Rattle.flights.specs.Serving.{KnowsMore, Serves};
 ghost use Rattle.flow_ties.specs.Cares.{HandsOver};
 ghost use Rattle.flow_ties.specs.Refusing.{Notices};
 
-use crate::{Gate, Store};
+use crate::{Caller, Gate, Store};
 use calls::{CoordinatorCall, NodeCall, Reply, ShardCall, Told, refuse};
 use device::Device;
-use flights::{CoordinatorPlace, ShardPlace, Tried};
-use published::{Published, SessionPass};
-use sides::{Attempt, Room};
+use flights::{CoordinatorPlace, ShardPlace};
+use sides::{Lists, Pass, Room};
 use std::sync::Wait;
-use tuples::{Entry, Refusal};
+use tuples::Refusal;
 
 // Makes a call of the coordinator that is no flush, under its lock.
 fn serve_coordinator<D: Device, B: Room>(
-    words: &Published<Entry>,
-    attempts: &Published<Attempt>,
+    lists: &Lists<B>,
     place: &mut CoordinatorPlace<D, B>,
-    pass: &mut SessionPass<Entry>,
-    tried: &mut Tried<B>,
+    caller: &mut Caller<B>,
     told: &mut Told,
     call: CoordinatorCall,
 ) -> Reply
-    requires own { (words.now ≡ B.log) × (pass.old.table ≡ B.log) × (attempts.now ≡ B.attempts) }
     requires owed { MayAskCoordinator B.shards call }
     requires counted { HasCount (tried_at place.old) }
     requires no_flush { is_log_flush call ≡ false }
-    ensures serves { Serves B.rests B.shards pass.old pass.new (of_coordinator call) result }
-    ensures tried { KnowsMore tried.old tried.new }
-    ensures tells { B.rests → TellsWriters pass.old.seen tried.new.seen pass.new.seen (of_coordinator call) result }
+    ensures serves { Serves B.rests B.shards caller.old.pass caller.new.pass (of_coordinator call) result }
+    ensures tried { KnowsMore caller.old.tried caller.new.tried }
+    ensures tells { B.rests → TellsWriters caller.old.pass.seen caller.new.tried.seen caller.new.pass.seen (of_coordinator call) result }
     ensures told { Notes told.old result told.new }
 {
-    place.ask(words, attempts, pass, tried, told, call)
+    place.ask(lists, caller, told, call)
 }
 
 // Makes a call of the shard that is no flush and no read, under its lock.
 fn serve_shard<D: Device, B: Room, R: Wait>(
     rt: &R,
-    words: &Published<Entry>,
+    lists: &Lists<B>,
     place: &mut ShardPlace<D, B>,
-    pass: &mut SessionPass<Entry>,
+    pass: &mut Pass<B>,
     told: &mut Told,
     call: ShardCall,
 ) -> Reply
-    requires own { (words.now ≡ B.log) × (pass.old.table ≡ B.log) }
     requires owed { MayAskShard B.shards (number_at place.old) call }
     requires hands { B.rests → HandsOver pass.old.seen pass.old.horizon (of_shard (number_at place.old) call) }
     requires no_flush { is_flush call ≡ false }
@@ -59,24 +54,23 @@ fn serve_shard<D: Device, B: Room, R: Wait>(
     ensures serves { Serves B.rests B.shards pass.old pass.new (of_shard (number_at place.old) call) result }
     ensures told { Notes told.old result told.new }
 {
-    place.ask(rt, words, pass, told, call)
+    place.ask(rt, lists, pass, told, call)
 }
 
 // Makes a read of the shard, while others may read it too.
 fn look_at_shard<D: Device, B: Room, R: Wait>(
     rt: &R,
-    words: &Published<Entry>,
+    lists: &Lists<B>,
     place: &ShardPlace<D, B>,
-    pass: &mut SessionPass<Entry>,
+    pass: &mut Pass<B>,
     told: &mut Told,
     call: ShardCall,
 ) -> Reply
-    requires own { (words.now ≡ B.log) × (pass.old.table ≡ B.log) }
     requires reads { is_read call ≡ true }
     ensures serves { Serves B.rests B.shards pass.old pass.new (of_shard (number_at place.now) call) result }
     ensures told { Notes told.old result told.new }
 {
-    let answer = place.look(rt, words, pass, told, &call);
+    let answer = place.look(rt, lists, pass, told, &call);
     Reply::Shard(call.into_reply(answer))
 }
 
@@ -85,40 +79,28 @@ impl<D: Device, B: Room, G: Gate> Store<D, B, G> {
     fn make_there<R: Wait>(
         &self,
         rt: &R,
-        pass: &mut SessionPass<Entry>,
-        tried: &mut Tried<B>,
+        caller: &mut Caller<B>,
         told: &mut Told,
         call: CoordinatorCall,
     ) -> Reply
-        requires own { pass.old.table ≡ B.log }
         requires owed { MayAskCoordinator B.shards call }
-        ensures serves { Serves B.rests B.shards pass.old pass.new (of_coordinator call) result }
-        ensures tried { KnowsMore tried.old tried.new }
-        ensures tells { B.rests → TellsWriters pass.old.seen tried.new.seen pass.new.seen (of_coordinator call) result }
+        ensures serves { Serves B.rests B.shards caller.old.pass caller.new.pass (of_coordinator call) result }
+        ensures tried { KnowsMore caller.old.tried caller.new.tried }
+        ensures tells { B.rests → TellsWriters caller.old.pass.seen caller.new.tried.seen caller.new.pass.seen (of_coordinator call) result }
         ensures told { Notices B.shards told.old (of_coordinator call) result told.new }
     {
         match call {
-            CoordinatorCall::Flush => self.coordinator.flush(
-                rt,
-                &self.words,
-                &self.launches,
-                &self.launch_log,
-                pass,
-                tried,
-                told,
-            ),
-            CoordinatorCall::Checkpoint => self.coordinator.checkpoint(rt, &self.words, pass, told),
+            CoordinatorCall::Flush => {
+                self.coordinator
+                    .flush(rt, &self.lists, &self.launch_log, caller, told)
+            }
+            CoordinatorCall::Checkpoint => {
+                self.coordinator
+                    .checkpoint(rt, &self.lists, &mut caller.pass, told)
+            }
             call => {
-                let mut place = self.coordinator.lock_to_ask(rt, &self.attempts);
-                serve_coordinator(
-                    &self.words,
-                    &self.attempts,
-                    &mut place,
-                    pass,
-                    tried,
-                    told,
-                    call,
-                )
+                let mut place = self.coordinator.lock_to_ask(rt, &self.lists);
+                serve_coordinator(&self.lists, &mut place, caller, told, call)
             }
         }
     }
@@ -128,12 +110,11 @@ impl<D: Device, B: Room, G: Gate> Store<D, B, G> {
     fn make_at<R: Wait>(
         &self,
         rt: &R,
-        pass: &mut SessionPass<Entry>,
+        pass: &mut Pass<B>,
         told: &mut Told,
         shard: u8,
         call: ShardCall,
     ) -> Reply
-        requires own { pass.old.table ≡ B.log }
         requires owed { MayAskShard B.shards shard call }
         requires hands { B.rests → HandsOver pass.old.seen pass.old.horizon (of_shard shard call) }
         ensures serves { Serves B.rests B.shards pass.old pass.new (of_shard shard call) result }
@@ -145,16 +126,16 @@ impl<D: Device, B: Room, G: Gate> Store<D, B, G> {
         }
         if call.is_read() {
             let place = self.side_to_read(rt, shard);
-            return look_at_shard(rt, &self.words, &place, pass, told, call);
+            return look_at_shard(rt, &self.lists, &place, pass, told, call);
         }
         match call {
             ShardCall::Flush => {
-                self.shards[shard as usize].flush(rt, &self.launches, &self.launch_log, told)
+                self.shards[shard as usize].flush(rt, &self.lists, &self.launch_log, told)
             }
             ShardCall::Checkpoint => self.shards[shard as usize].checkpoint(rt, told),
             call => {
                 let mut place = self.side(rt, shard);
-                serve_shard(rt, &self.words, &mut place, pass, told, call)
+                serve_shard(rt, &self.lists, &mut place, pass, told, call)
             }
         }
     }
@@ -163,22 +144,20 @@ impl<D: Device, B: Room, G: Gate> Store<D, B, G> {
     fn make_of_node<R: Wait>(
         &self,
         rt: &R,
-        pass: &mut SessionPass<Entry>,
-        tried: &mut Tried<B>,
+        caller: &mut Caller<B>,
         told: &mut Told,
         call: NodeCall,
     ) -> Reply
-        requires own { pass.old.table ≡ B.log }
         requires owed { IsOwed B.shards call }
-        requires hands { B.rests → HandsOver pass.old.seen pass.old.horizon call }
-        ensures serves { Serves B.rests B.shards pass.old pass.new call result }
-        ensures tried { KnowsMore tried.old tried.new }
-        ensures tells { B.rests → TellsWriters pass.old.seen tried.new.seen pass.new.seen call result }
+        requires hands { B.rests → HandsOver caller.old.pass.seen caller.old.pass.horizon call }
+        ensures serves { Serves B.rests B.shards caller.old.pass caller.new.pass call result }
+        ensures tried { KnowsMore caller.old.tried caller.new.tried }
+        ensures tells { B.rests → TellsWriters caller.old.pass.seen caller.new.tried.seen caller.new.pass.seen call result }
         ensures told { Notices B.shards told.old call result told.new }
     {
         match call {
-            NodeCall::Coordinator(call) => self.make_there(rt, pass, tried, told, call),
-            NodeCall::Shard(shard, call) => self.make_at(rt, pass, told, shard, call),
+            NodeCall::Coordinator(call) => self.make_there(rt, caller, told, call),
+            NodeCall::Shard(shard, call) => self.make_at(rt, &mut caller.pass, told, shard, call),
         }
     }
 
@@ -187,22 +166,20 @@ impl<D: Device, B: Room, G: Gate> Store<D, B, G> {
     pub(crate) fn make<R: Wait>(
         &self,
         rt: &R,
-        pass: &mut SessionPass<Entry>,
-        tried: &mut Tried<B>,
+        caller: &mut Caller<B>,
         told: &mut Told,
         call: NodeCall,
     ) -> Reply
-        requires own { pass.old.table ≡ B.log }
         requires owed { IsOwed B.shards call }
-        requires hands { B.rests → HandsOver pass.old.seen pass.old.horizon call }
-        ensures serves { Serves B.rests B.shards pass.old pass.new call result }
-        ensures tried { KnowsMore tried.old tried.new }
-        ensures tells { B.rests → TellsWriters pass.old.seen tried.new.seen pass.new.seen call result }
+        requires hands { B.rests → HandsOver caller.old.pass.seen caller.old.pass.horizon call }
+        ensures serves { Serves B.rests B.shards caller.old.pass caller.new.pass call result }
+        ensures tried { KnowsMore caller.old.tried caller.new.tried }
+        ensures tells { B.rests → TellsWriters caller.old.pass.seen caller.new.tried.seen caller.new.pass.seen call result }
         ensures told { Notices B.shards told.old call result told.new }
     {
         let (node, name) = (call.node(), call.name());
         self.gate.before(node, name);
-        let reply = self.make_of_node(rt, pass, tried, told, call);
+        let reply = self.make_of_node(rt, caller, told, call);
         self.gate.after(node, name);
         reply
     }

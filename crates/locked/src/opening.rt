@@ -6,15 +6,12 @@ ghost use Rattle.locked.specs.Opening.{HasFound, RefusesCoordinator, RefusesStor
 
 use crate::{Caller, Gate, Parts, Store};
 use device::Device;
-use flights::{
-    ClosedShard, CoordinatorCell, CoordinatorPlace, Launch, LaunchLog, ShardCell, Tried,
-};
+use flights::{ClosedShard, CoordinatorCell, CoordinatorPlace, LaunchLog, ShardCell};
 use journal::BatchRoom;
-use published::{LogPass, Published, SharedPass};
+use published::LogPass;
 use records::Identity;
-use sides::{Attempt, CoordinatorSide, Room};
+use sides::{Attempt, CoordinatorSide, Lists, Room};
 use std::alloc::{AllocError, Global};
-use std::marker::PhantomData;
 use std::sync::Mutex;
 use std::sync::atomic::AtomicBool;
 use std::thread::{self, Threads};
@@ -35,12 +32,9 @@ fn take_two<D>(devices: &mut Vec<D>) -> (D, D)
 #[derive(Drop)]
 struct Ground<'a, B: Room> {
     alloc: Global,
-    words: &'a Published<Entry>,
-    launches: &'a Published<Launch>,
+    lists: &'a Lists<B>,
     store: u64,
     shards: Shards,
-    room: PhantomData<B>,
-    ghost own: { (words.now ≡ B.log) × (launches.now ≡ B.launches) },
     ghost of: { (store ≡ B.store) × (shards ≡ B.shards) },
 }
 
@@ -64,7 +58,7 @@ fn open_coordinator<D: Device, B: Room>(
 {
     let (a, b) = take_two(devices);
     CoordinatorSide::open(
-        ground.words,
+        ground.lists,
         ground.alloc,
         a,
         b,
@@ -72,21 +66,6 @@ fn open_coordinator<D: Device, B: Room>(
         log,
         attempts,
     )
-}
-
-// The first caller, which knows what the coordinator has found.
-fn first_caller<D: Device, B: Room>(
-    ground: &Ground<'_, B>,
-    attempts: &Published<Attempt>,
-    coordinator: &mut CoordinatorSide<D, B>,
-) -> Caller<B>
-    requires own { attempts.now ≡ B.attempts }
-    ensures same { coordinator.new ≡ coordinator.old }
-    ensures all { (result.seen ≡ coordinator.old.seen) × (result.horizon ≡ coordinator.old.low) }
-{
-    let pass = coordinator.session(ground.words);
-    let tried = Tried::new(coordinator.attempts(attempts));
-    Caller::new(pass, tried)
 }
 
 // The next shard, which is to be opened over the next two devices. What the coordinator has found it knows.
@@ -109,10 +88,9 @@ fn next_shard<D: Device, B: Room>(
     ensures same { coordinator.new ≡ coordinator.old }
 {
     let (a, b) = take_two(devices);
-    let seen = coordinator.session(ground.words);
-    let pass = SharedPass::new(ground.words, seen);
+    let pass = coordinator.shared(ground.lists);
     let me = Identity::shard(ground.store, ground.shards, shard);
-    let known = launch_log.session(ground.launches);
+    let known = launch_log.session(ground.lists);
     ClosedShard::new(ground.alloc, a, b, me, pass, room, known)
 }
 
@@ -144,7 +122,7 @@ fn coordinator_cell<D: Device, B: Room>(
     side: CoordinatorSide<D, B>,
     room: BatchRoom,
 ) -> CoordinatorCell<D, B> {
-    let known = launch_log.session(ground.launches);
+    let known = launch_log.session(ground.lists);
     CoordinatorCell::new(CoordinatorPlace::new(side, room, known))
 }
 
@@ -184,25 +162,24 @@ fn shard_cells<D: Device + Send, B: Room + Send, R: Threads + Sync>(
 fn open_nodes<D: Device + Send, B: Room + Send, R: Threads + Sync>(
     rt: &R,
     ground: &Ground<'_, B>,
-    attempts: &Published<Attempt>,
     launch_log: &mut LaunchLog<B>,
     log: LogPass<Entry>,
     tried: LogPass<Attempt>,
     devices: &mut Vec<D>,
 ) -> Result<(Caller<B>, CoordinatorCell<D, B>, Vec<ShardCell<D, B>>), Refusal>
-    requires own { (log.table ≡ B.log) × (attempts.now ≡ B.attempts) × (tried.table ≡ B.attempts) }
+    requires own { (log.table ≡ B.log) × (tried.table ≡ B.attempts) }
     requires empty { (log.seen ≡ []) × (log.horizon ≡ 0) × (tried.seen ≡ []) }
     requires count { vec_len devices.old ≡ 2 * (B.shards + 1) }
     requires honest { All D.honest devices.old.items }
     requires rests { B.rests → RestAt D.state D.honest B.shards B.first B.low devices.old.items }
-    ensures found { IfOk result (λ opened. B.rests → HasFound B.first B.low opened.0) }
+    ensures found { IfOk result (λ opened. B.rests → HasFound B.first B.low opened.0.pass) }
     ensures all { IfOk result (λ opened. vec_len opened.2 ≡ B.shards) }
     ensures refused { IfErr result (RefusesStore D.state D.honest D.moment D.left_since B.store B.shards devices.old.items) }
 {
     // Taken first, while there is little to let go where there is no memory for it.
     let room = BatchRoom::new(ground.alloc)?;
     let mut side = open_coordinator(ground, log, tried, devices)?;
-    let caller = first_caller(ground, attempts, &mut side);
+    let caller = side.session(ground.lists);
     match shard_cells(rt, ground, launch_log, &mut side, devices) {
         Ok(cells) => {
             let coordinator = coordinator_cell(ground, launch_log, side, room);
@@ -242,7 +219,7 @@ impl<D: Device, B: Room, G: Gate> Store<D, B, G> {
         requires count { vec_len devices ≡ 2 * (shards + 1) }
         requires honest { All D.honest devices.items }
         requires rests { B.rests → RestAt D.state D.honest B.shards B.first B.low devices.items }
-        ensures found { IfOk result (λ opened. B.rests → HasFound B.first B.low opened.1) }
+        ensures found { IfOk result (λ opened. B.rests → HasFound B.first B.low opened.1.pass) }
         ensures refused { IfErr result (RefusesStore D.state D.honest D.moment D.left_since B.store B.shards devices.items) }
     {
         let Parts {
@@ -254,23 +231,14 @@ impl<D: Device, B: Room, G: Gate> Store<D, B, G> {
         } = parts;
         let (attempts, tried) = attempts.into_parts();
         let (launches, mut launch_log) = launches.into_parts();
+        let lists = Lists::new(words, attempts, launches);
         let ground = Ground {
             alloc,
-            words: &words,
-            launches: &launches,
+            lists: &lists,
             store,
             shards,
-            room: PhantomData,
         };
-        let opened = open_nodes(
-            rt,
-            &ground,
-            &attempts,
-            &mut launch_log,
-            log,
-            tried,
-            &mut devices,
-        );
+        let opened = open_nodes(rt, &ground, &mut launch_log, log, tried, &mut devices);
         drop(ground);
         drop(devices);
         match opened {
@@ -280,10 +248,8 @@ impl<D: Device, B: Room, G: Gate> Store<D, B, G> {
                     bell,
                     closed: AtomicBool::new(false),
                     is_called: AtomicBool::new(true),
-                    words,
-                    attempts,
+                    lists,
                     coordinator,
-                    launches,
                     launch_log: Mutex::new(launch_log),
                     shards: cells,
                     count: shards,
@@ -293,9 +259,7 @@ impl<D: Device, B: Room, G: Gate> Store<D, B, G> {
             Err(refusal) => {
                 drop(gate);
                 drop(bell);
-                drop(words);
-                drop(attempts);
-                drop(launches);
+                drop(lists);
                 drop(launch_log);
                 Err(refusal)
             }

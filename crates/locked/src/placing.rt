@@ -21,10 +21,10 @@ pub(crate) fn is_exact(freshness: Freshness) -> bool
 impl<D: Device, B: Room, G: Gate> Store<D, B, G> {
     /// The place of an answer that is as fresh as asked, by the published word. None where what is asked for lies above that.
     pub(crate) fn known_place(&self, caller: &mut Caller<B>, freshness: Freshness) -> Option<u64>
-        ensures caller { IsLater caller.old caller.new }
-        ensures there { IfSome result (λ place. place ≤ length caller.new.seen) }
-        ensures fresh { IfSome result (λ place. IsFresh freshness (length caller.old.seen) place) }
-        ensures beyond { IfNone result (IsBeyond freshness (length caller.new.seen)) }
+        ensures caller { IsLater caller.old.pass caller.new.pass }
+        ensures there { IfSome result (λ place. place ≤ length caller.new.pass.seen) }
+        ensures fresh { IfSome result (λ place. IsFresh freshness (length caller.old.pass.seen) place) }
+        ensures beyond { IfNone result (IsBeyond freshness (length caller.new.pass.seen)) }
     {
         let latest = self.latest(caller);
         match freshness {
@@ -36,9 +36,9 @@ impl<D: Device, B: Room, G: Gate> Store<D, B, G> {
     }
     /// Whether just one place will do, and the horizon has passed it, by one load where it is just one.
     pub(crate) fn has_passed(&self, caller: &mut Caller<B>, freshness: Freshness) -> bool
-        ensures caller { IsLater caller.old caller.new }
-        ensures passed { result ≡ true → IsPassed freshness caller.new.horizon }
-        ensures ahead { result ≡ false → IsPassed freshness caller.old.horizon → ⊥ }
+        ensures caller { IsLater caller.old.pass caller.new.pass }
+        ensures passed { result ≡ true → IsPassed freshness caller.new.pass.horizon }
+        ensures ahead { result ≡ false → IsPassed freshness caller.old.pass.horizon → ⊥ }
     {
         match freshness {
             Freshness::Exact(place) => place < self.horizon(caller),

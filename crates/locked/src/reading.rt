@@ -63,10 +63,10 @@ impl<D: Device, B: Room, G: Gate> Store<D, B, G> {
         freshness: Freshness,
         sets: Vec<Tupleset>,
     ) -> ReadFlow
-        ensures caller { IsLater caller.old caller.new }
-        ensures runs { ReadRuns B.rests B.shards caller.new.seen freshness (length caller.old.seen) sets.items result }
+        ensures caller { IsLater caller.old.pass caller.new.pass }
+        ensures runs { ReadRuns B.rests B.shards caller.new.pass.seen freshness (length caller.old.pass.seen) sets.items result }
         ensures rests { result.seen.awaited ≡ None }
-        ensures reason { (marks : List Bool) → ReadHasReason marks result.fresh caller.new.seen caller.new.horizon result.seen }
+        ensures reason { (marks : List Bool) → ReadHasReason marks result.fresh caller.new.pass.seen caller.new.pass.horizon result.seen }
     {
         let count = self.shards();
         match self.known_place(caller, freshness) {
@@ -84,15 +84,15 @@ impl<D: Device, B: Room, G: Gate> Store<D, B, G> {
         mut flow: ReadFlow,
     ) -> ReadFlow
         requires of { flow.shards ≡ B.shards }
-        requires held { B.rests → IsReadOf B.shards caller.old.seen flow.fresh flow.sets flow.seen }
+        requires held { B.rests → IsReadOf B.shards caller.old.pass.seen flow.fresh flow.sets flow.seen }
         requires rests { flow.seen.awaited ≡ None }
-        requires reason { B.rests → ReadHasReason told.old flow.fresh caller.old.seen caller.old.horizon flow.seen }
-        ensures caller { IsLater caller.old caller.new }
-        ensures held { B.rests → IsReadOf B.shards caller.new.seen result.fresh result.sets result.seen }
+        requires reason { B.rests → ReadHasReason told.old flow.fresh caller.old.pass.seen caller.old.pass.horizon flow.seen }
+        ensures caller { IsLater caller.old.pass caller.new.pass }
+        ensures held { B.rests → IsReadOf B.shards caller.new.pass.seen result.fresh result.sets result.seen }
         ensures same { (result.fresh ≡ flow.fresh) × (result.sets ≡ flow.sets) }
         ensures named { result.next_name ≡ None }
         ensures rests { result.seen.awaited ≡ None }
-        ensures reason { B.rests → ReadHasReason told.new result.fresh caller.new.seen caller.new.horizon result.seen }
+        ensures reason { B.rests → ReadHasReason told.new result.fresh caller.new.pass.seen caller.new.pass.horizon result.seen }
     {
         let mut is_behind = false;
         for _ in rt.forever() {
@@ -115,9 +115,9 @@ impl<D: Device, B: Room, G: Gate> Store<D, B, G> {
         freshness: Freshness,
         sets: Vec<Tupleset>,
     ) -> (ReadEnd, Vec<Tupleset>)
-        ensures caller { IsLater caller.old caller.new }
-        ensures answer { B.rests → ReadEnds caller.new.seen freshness (length caller.old.seen) sets.items (ending_of result.0) }
-        ensures refused { B.rests → ReadRefuses told.new caller.new.seen caller.new.horizon freshness (length caller.old.seen) (ending_of result.0) }
+        ensures caller { IsLater caller.old.pass caller.new.pass }
+        ensures answer { B.rests → ReadEnds caller.new.pass.seen freshness (length caller.old.pass.seen) sets.items (ending_of result.0) }
+        ensures refused { B.rests → ReadRefuses told.new caller.new.pass.seen caller.new.pass.horizon freshness (length caller.old.pass.seen) (ending_of result.0) }
         ensures sets { result.1.items ≡ sets.items }
     {
         let flow = self.begin_read(alloc, caller, freshness, sets);
@@ -139,10 +139,10 @@ impl<D: Device, B: Room, G: Gate> Store<D, B, G> {
         freshness: Freshness,
         sets: Vec<Tupleset>,
     ) -> ReadEnd
-        ensures caller { IsLater caller.old caller.new }
-        ensures answer { B.rests → ReadEnds caller.new.seen freshness (length caller.old.seen) sets.items (ending_of result) }
-        ensures refused { B.rests → ReadRefuses told.new caller.new.seen caller.new.horizon freshness (length caller.old.seen) (ending_of result) }
-        ensures passed { IsPassed freshness caller.old.horizon → result ≡ ReadEnd.Refused Refusal.Collected }
+        ensures caller { IsLater caller.old.pass caller.new.pass }
+        ensures answer { B.rests → ReadEnds caller.new.pass.seen freshness (length caller.old.pass.seen) sets.items (ending_of result) }
+        ensures refused { B.rests → ReadRefuses told.new caller.new.pass.seen caller.new.pass.horizon freshness (length caller.old.pass.seen) (ending_of result) }
+        ensures passed { IsPassed freshness caller.old.pass.horizon → result ≡ ReadEnd.Refused Refusal.Collected }
         ensures collected { result ≡ ReadEnd.Refused Refusal.Collected → IsJustOne freshness }
     {
         if self.has_passed(caller, freshness) {
@@ -155,6 +155,7 @@ impl<D: Device, B: Room, G: Gate> Store<D, B, G> {
                 drop(asked);
                 return end;
             }
+            told.begin_again();
             sets = asked;
         }
         unreachable!()

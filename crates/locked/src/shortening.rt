@@ -4,6 +4,7 @@ ghost use Rattle.care_flow.specs.Cares.{IsThere, begun};
 ghost use Rattle.names.specs.declared.care.Care.TheVariants.{Checkpoint as checkpoint_of};
 ghost use Rattle.sides.specs.Sides.{IsLater};
 
+use crate::window::Counted;
 use crate::{Caller, Gate, Notice, Store};
 use calls::Told;
 use care_flow::CareEnd;
@@ -32,9 +33,10 @@ fn limit_behind(length: u64) -> u64
     LEAST_LIMIT.max(large.min(length.saturating_mul(4)))
 }
 
-// How many bytes the bank of each node may have until it makes a checkpoint.
+// How many bytes the bank of each node may have until it makes a checkpoint, and when those of the window were counted.
 #[derive(Drop)]
 pub(crate) struct Limits {
+    pub(crate) counted: Counted,
     coordinator: u64,
     shards: [u64; MAX_SHARDS as usize],
 }
@@ -43,6 +45,7 @@ impl Limits {
     // Those of a store of which nobody knows what its last checkpoints left.
     fn new() -> Limits {
         Limits {
+            counted: Counted::new(),
             coordinator: LEAST_LIMIT,
             shards: [LEAST_LIMIT; MAX_SHARDS as usize],
         }
@@ -51,7 +54,7 @@ impl Limits {
 
 impl<D: Device, B: Room, G: Gate> Store<D, B, G> {
     // How many bytes the bank of the node has.
-    fn bank_len<R: Wait>(&self, rt: &R, node: NodeName) -> u64
+    pub(crate) fn bank_len<R: Wait>(&self, rt: &R, node: NodeName) -> u64
         requires there { IsThere B.shards (begun B.shards (checkpoint_of node)) }
     {
         match node {
@@ -61,7 +64,7 @@ impl<D: Device, B: Room, G: Gate> Store<D, B, G> {
     }
 
     // How many bytes a checkpoint of the node has; none where its opening was refused, or there is no memory to tell.
-    fn checkpoint_len<R: Wait>(&self, rt: &R, node: NodeName) -> Option<u64>
+    pub(crate) fn checkpoint_len<R: Wait>(&self, rt: &R, node: NodeName) -> Option<u64>
         requires there { IsThere B.shards (begun B.shards (checkpoint_of node)) }
     {
         match node {
@@ -125,7 +128,7 @@ impl<D: Device, B: Room, G: Gate> Store<D, B, G> {
         notice: &mut N,
     ) -> u64
         requires there { IsThere B.shards (begun B.shards (checkpoint_of node)) }
-        ensures caller { IsLater caller.old caller.new }
+        ensures caller { IsLater caller.old.pass caller.new.pass }
     {
         let len = self.bank_len(rt, node);
         if len <= limit {
@@ -156,7 +159,7 @@ impl<D: Device, B: Room, G: Gate> Store<D, B, G> {
         limits: &mut [u64; MAX_SHARDS as usize],
         notice: &mut N,
     )
-        ensures caller { IsLater caller.old caller.new }
+        ensures caller { IsLater caller.old.pass caller.new.pass }
     {
         for shard in 0..self.count.count() {
             let at = shard as usize;
@@ -174,7 +177,7 @@ impl<D: Device, B: Room, G: Gate> Store<D, B, G> {
         limits: &mut Limits,
         notice: &mut N,
     )
-        ensures caller { IsLater caller.old caller.new }
+        ensures caller { IsLater caller.old.pass caller.new.pass }
     {
         let node = NodeName::Coordinator;
         limits.coordinator = self.shorten(rt, alloc, caller, node, limits.coordinator, notice);

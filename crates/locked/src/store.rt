@@ -2,19 +2,17 @@
 ghost use Rattle.std.specs.Prelude.{◌≡◌, ◌≤◌, ◌<◌, length, vec_len};
 ghost use Rattle.std.specs.Sync.RwLock.{read_guard_value, write_guard_value};
 ghost use Rattle.flights.specs.Places.{number_at};
-ghost use Rattle.sides.specs.Sides.{IsLater};
-ghost use Rattle.locked.specs.Serving.{KnowsOf};
+ghost use Rattle.sides.specs.Sides.{IsLater, KnowsOf};
 
 use crate::{Caller, Gate};
 use crossbeam_utils::sync::Unparker;
 use device::Device;
-use flights::{CoordinatorCell, Launch, LaunchLog, ShardCell, ShardPlace};
-use published::Published;
-use sides::{Attempt, Room};
+use flights::{CoordinatorCell, LaunchLog, ShardCell, ShardPlace};
+use sides::{Lists, Room};
 use std::alloc::Global;
 use std::sync::atomic::AtomicBool;
 use std::sync::{Mutex, RwLockReadGuard, RwLockWriteGuard, Wait};
-use tuples::{Entry, Refusal, Shards};
+use tuples::{Refusal, Shards};
 
 /// A store that callers share.
 #[derive(Drop)]
@@ -25,19 +23,13 @@ pub struct Store<D: Device, B: Room, G: Gate> {
     pub(crate) closed: AtomicBool,
     // whether who tends it is to make a round
     pub(crate) is_called: AtomicBool,
-    pub(crate) words: Published<Entry>,
-    // all decisions that were ever staged
-    pub(crate) attempts: Published<Attempt>,
+    pub(crate) lists: Lists<B>,
     pub(crate) coordinator: CoordinatorCell<D, B>,
-    // which flights there were; a node's lock may be held around that of the log, and never the other way round
-    pub(crate) launches: Published<Launch>,
+    // a node's lock may be held around this one, and never the other way round
     pub(crate) launch_log: Mutex<LaunchLog<B>>,
     // the shard of each number, in their order
     pub(crate) shards: Vec<ShardCell<D, B>>,
     pub(crate) count: Shards,
-    ghost own: { words ≡ B.log },
-    ghost tried: { attempts ≡ B.attempts },
-    ghost flights: { launches ≡ B.launches },
     ghost of: { count ≡ B.shards },
     ghost all: { vec_len shards ≡ count },
 }
@@ -53,36 +45,34 @@ impl<D: Device, B: Room, G: Gate> Store<D, B, G> {
     /// A new caller, which has seen all that there is. No clause says so: what it is to know by contract, another caller has to `tell` it.
     pub fn session<R: Wait>(&self, rt: &R) -> Caller<B> {
         let mut place = self.coordinator.lock(rt);
-        let pass = place.session(&self.words);
-        let tried = place.attempts(&self.attempts);
-        Caller::new(pass, tried)
+        place.session(&self.lists)
     }
 
     /// The place of the last write, by one load. The caller has then seen as many writes. It takes no lock.
     pub fn latest(&self, caller: &mut Caller<B>) -> u64
-        ensures caller { IsLater caller.old caller.new }
-        ensures length { length caller.new.seen ≡ result }
-        ensures rises { length caller.old.seen ≤ result }
+        ensures caller { IsLater caller.old.pass caller.new.pass }
+        ensures length { length caller.new.pass.seen ≡ result }
+        ensures rises { length caller.old.pass.seen ≤ result }
     {
-        self.words.latest(&mut caller.pass)
+        caller.pass.latest(&self.lists)
     }
 
     /// The horizon, by one load. The caller has then seen at least that many writes. It takes no lock.
     pub fn horizon(&self, caller: &mut Caller<B>) -> u64
-        ensures caller { IsLater caller.old caller.new }
-        ensures below { result ≤ length caller.new.seen }
-        ensures rises { caller.old.horizon ≤ result }
-        ensures known { caller.new.horizon ≡ result }
+        ensures caller { IsLater caller.old.pass caller.new.pass }
+        ensures below { result ≤ length caller.new.pass.seen }
+        ensures rises { caller.old.pass.horizon ≤ result }
+        ensures known { caller.new.pass.horizon ≡ result }
     {
-        self.words.horizon(&mut caller.pass)
+        caller.pass.horizon(&self.lists)
     }
 
     /// Each caller learns what the other has seen. It takes no lock.
     pub fn tell(&self, one: &mut Caller<B>, other: &mut Caller<B>)
-        ensures one { KnowsOf one.old other.old one.new }
-        ensures other { KnowsOf one.old other.old other.new }
+        ensures one { KnowsOf one.old.pass other.old.pass one.new.pass }
+        ensures other { KnowsOf one.old.pass other.old.pass other.new.pass }
     {
-        self.words.share(&mut one.pass, &mut other.pass);
+        one.pass.share(&self.lists, &mut other.pass);
     }
 
     // The shard of this number, locked.
@@ -124,7 +114,7 @@ impl<D: Device, B: Room, G: Gate> Store<D, B, G> {
     /// Opens the coordinator again, with what its devices hold, once these are back from a flush; what was kept joins the list. The refusal of its opening, where
     /// that was refused.
     pub fn restart_coordinator<R: Wait>(&self, rt: &R, alloc: Global) -> Option<Refusal> {
-        let refusal = self.coordinator.restart(rt, &self.words, alloc);
+        let refusal = self.coordinator.restart(rt, &self.lists, alloc);
         self.ring();
         refusal
     }

@@ -5,7 +5,7 @@ ghost use Rattle.names.specs.declared.care.Care.TheVariants.{Flush as flush_of};
 ghost use Rattle.sides.specs.Sides.{IsLater};
 
 use crate::shortening::Limits;
-use crate::{Caller, Gate, Notice, Store};
+use crate::{Caller, Gate, Notice, Store, Window};
 use calls::Told;
 use care_flow::CareEnd;
 use crossbeam_utils::sync::{Parker, Unparker};
@@ -51,14 +51,14 @@ impl<D: Device, B: Room, G: Gate> Store<D, B, G> {
         care: Care,
     )
         requires there { IsThere B.shards (begun B.shards care) }
-        ensures caller { IsLater caller.old caller.new }
+        ensures caller { IsLater caller.old.pass caller.new.pass }
     {
         let _ = self.care(rt, alloc, caller, &mut Told::new(), care);
     }
 
     // At each shard writes in doubt are resolved, and what is kept is learned.
     fn settle_all<R: Wait>(&self, rt: &R, alloc: Global, caller: &mut Caller<B>)
-        ensures caller { IsLater caller.old caller.new }
+        ensures caller { IsLater caller.old.pass caller.new.pass }
     {
         for shard in 0..self.count.count() {
             self.try_care(rt, alloc, caller, Care::Resolve(shard));
@@ -68,7 +68,7 @@ impl<D: Device, B: Room, G: Gate> Store<D, B, G> {
 
     // At each shard what no read from the horizon on needs is forgotten.
     fn collect_all<R: Wait>(&self, rt: &R, alloc: Global, caller: &mut Caller<B>)
-        ensures caller { IsLater caller.old caller.new }
+        ensures caller { IsLater caller.old.pass caller.new.pass }
     {
         for shard in 0..self.count.count() {
             self.try_care(rt, alloc, caller, Care::Collect(shard));
@@ -77,7 +77,7 @@ impl<D: Device, B: Room, G: Gate> Store<D, B, G> {
 
     // The horizon follows the latest place, so many places behind it, and shards forget what lies below.
     fn follow<R: Wait>(&self, rt: &R, alloc: Global, caller: &mut Caller<B>, window: u64)
-        ensures caller { IsLater caller.old caller.new }
+        ensures caller { IsLater caller.old.pass caller.new.pass }
     {
         let latest = self.latest(caller);
         let horizon = self.horizon(caller);
@@ -97,7 +97,7 @@ impl<D: Device, B: Room, G: Gate> Store<D, B, G> {
         notice: &mut N,
     )
         requires there { IsThere B.shards (begun B.shards (flush_of node)) }
-        ensures caller { IsLater caller.old caller.new }
+        ensures caller { IsLater caller.old.pass caller.new.pass }
     {
         let end = self.care(rt, alloc, caller, &mut Told::new(), Care::Flush(node));
         if let CareEnd::Refused(Refusal::Down) = end {
@@ -113,7 +113,7 @@ impl<D: Device, B: Room, G: Gate> Store<D, B, G> {
         caller: &mut Caller<B>,
         notice: &mut N,
     )
-        ensures caller { IsLater caller.old caller.new }
+        ensures caller { IsLater caller.old.pass caller.new.pass }
     {
         self.flush(rt, alloc, caller, NodeName::Coordinator, notice);
         for shard in 0..self.count.count() {
@@ -131,7 +131,7 @@ impl<D: Device, B: Room, G: Gate> Store<D, B, G> {
         window: u64,
         notice: &mut N,
     )
-        ensures caller { IsLater caller.old caller.new }
+        ensures caller { IsLater caller.old.pass caller.new.pass }
     {
         self.settle_all(rt, alloc, caller);
         self.follow(rt, alloc, caller, window);
@@ -144,18 +144,19 @@ impl<D: Device, B: Room, G: Gate> Store<D, B, G> {
         rt: &R,
         alloc: Global,
         caller: &mut Caller<B>,
-        window: u64,
+        window: Window,
         notice: &mut N,
         limits: &mut Limits,
     ) -> bool
-        ensures caller { IsLater caller.old caller.new }
+        ensures caller { IsLater caller.old.pass caller.new.pass }
     {
         // Before the round, so that what was done before the close is tended once more.
         let is_closed = self.closed.load(Ordering::SeqCst);
         if !self.is_called.swap(false, Ordering::SeqCst) && !is_closed {
             return false;
         }
-        self.tend(rt, alloc, caller, window, notice);
+        let places = self.places_within(rt, caller, window, &mut limits.counted);
+        self.tend(rt, alloc, caller, places, notice);
         if !is_closed {
             self.shorten_all(rt, alloc, caller, limits, notice);
         }
@@ -163,7 +164,8 @@ impl<D: Device, B: Room, G: Gate> Store<D, B, G> {
     }
 
     /// Tends the store until it is closed: a round whenever the bell rings, and a last one once it is closed. It rings where a write left something behind,
-    /// where a node was opened again, and at every 1,024th place; within a second of a write that was refused a round is made too. After each round a node
+    /// where a node was opened again, and at every 1,024th place; within a second of a write that was refused a round is made too. The horizon follows the latest
+    /// place by the window: so many places, or fewer where their decisions take more bytes than it has. After each round a node
     /// whose bank has grown to four times what its last checkpoint left it with, and to more than 2 MiB, makes one; from 64 MiB on it makes one at twice as
     /// much. It answers nobody meanwhile. When the store is opened, what a checkpoint would have then counts as left. If the disk has no room for one it is put
     /// off, and the notice is told. One that was put off or refused is tried again once 2 MiB more were written.
@@ -172,11 +174,11 @@ impl<D: Device, B: Room, G: Gate> Store<D, B, G> {
         rt: &R,
         alloc: Global,
         caller: &mut Caller<B>,
-        window: u64,
+        window: Window,
         parker: &Parker,
         notice: &mut N,
     )
-        ensures caller { IsLater caller.old caller.new }
+        ensures caller { IsLater caller.old.pass caller.new.pass }
     {
         let mut limits = self.first_limits(rt);
         for _ in rt.forever() {

@@ -37,14 +37,14 @@ impl<D: Device, B: Room, G: Gate> Store<D, B, G> {
         mut flow: WatchFlow,
     ) -> WatchFlow
         requires few { flow.limit ≤ max_watched }
-        requires held { B.rests → IsWatchOf flow.cursor flow.limit flow.namespaces (length caller.old.seen) caller.old.seen flow.seen }
+        requires held { B.rests → IsWatchOf flow.cursor flow.limit flow.namespaces (length caller.old.pass.seen) caller.old.pass.seen flow.seen }
         requires rests { flow.seen.awaited ≡ None }
-        requires reason { B.rests → WatchHasReason told.old flow.cursor caller.old.seen caller.old.horizon flow.seen }
-        ensures caller { IsLater caller.old caller.new }
-        ensures held { B.rests → IsWatchOf flow.cursor flow.limit flow.namespaces (length caller.old.seen) caller.new.seen result.seen }
+        requires reason { B.rests → WatchHasReason told.old flow.cursor caller.old.pass.seen caller.old.pass.horizon flow.seen }
+        ensures caller { IsLater caller.old.pass caller.new.pass }
+        ensures held { B.rests → IsWatchOf flow.cursor flow.limit flow.namespaces (length caller.old.pass.seen) caller.new.pass.seen result.seen }
         ensures named { next_name_of result.seen ≡ None }
         ensures rests { result.seen.awaited ≡ None }
-        ensures reason { B.rests → WatchHasReason told.new flow.cursor caller.new.seen caller.new.horizon result.seen }
+        ensures reason { B.rests → WatchHasReason told.new flow.cursor caller.new.pass.seen caller.new.pass.horizon result.seen }
     {
         for _ in rt.forever() {
             if flow.next_name().is_none() {
@@ -69,10 +69,10 @@ impl<D: Device, B: Room, G: Gate> Store<D, B, G> {
         namespaces: Vec<Namespace>,
     ) -> WatchEnd
         requires few { limit ≤ max_watched }
-        ensures caller { IsLater caller.old caller.new }
-        ensures lists { B.rests → WatchEnds cursor limit namespaces.items (length caller.old.seen) caller.new.seen (ending_of result) }
-        ensures refused { B.rests → WatchRefuses told.new caller.new.seen caller.new.horizon cursor (ending_of result) }
-        ensures passed { cursor < caller.old.horizon → result ≡ WatchEnd.Refused Refusal.Collected }
+        ensures caller { IsLater caller.old.pass caller.new.pass }
+        ensures lists { B.rests → WatchEnds cursor limit namespaces.items (length caller.old.pass.seen) caller.new.pass.seen (ending_of result) }
+        ensures refused { B.rests → WatchRefuses told.new caller.new.pass.seen caller.new.pass.horizon cursor (ending_of result) }
+        ensures passed { cursor < caller.old.pass.horizon → result ≡ WatchEnd.Refused Refusal.Collected }
     {
         if cursor < self.horizon(caller) {
             return WatchEnd::Refused(Refusal::Collected);

@@ -10,12 +10,10 @@ use crate::{Caller, Gate, Store};
 use calls::{Running, Told};
 use commit_flow::{WriteEnd, WriteFlow};
 use device::Device;
-use flights::Tried;
-use published::SessionPass;
 use sides::Room;
 use std::alloc::Global;
 use std::sync::Wait;
-use tuples::{Entry, Refusal, Write};
+use tuples::{Refusal, Write};
 
 // How many places lie between two rounds of whoever tends the store, where nothing else calls for one.
 const PLACES_A_ROUND: u64 = 1_024;
@@ -39,28 +37,26 @@ impl<D: Device, B: Room, G: Gate> Store<D, B, G> {
     fn write_turn<R: Wait>(
         &self,
         rt: &R,
-        pass: &mut SessionPass<Entry>,
-        tried: &mut Tried<B>,
+        caller: &mut Caller<B>,
         told: &mut Told,
         flow: &mut WriteFlow,
     )
-        requires own { pass.old.table ≡ B.log }
         requires of { flow.old.shards ≡ B.shards }
         requires goes_on { is_some flow.old.next_name ≡ true }
         requires runs { flow.old.seen.ended ≡ None }
-        requires held { B.rests → (asked : WriteValue) × (above : ℕ) × IsKnownWriteOf tried.old.seen asked above pass.old.seen flow.old.seen }
-        ensures later { IsLater pass.old pass.new }
-        ensures known { KnowsMore tried.old tried.new }
+        requires held { B.rests → (asked : WriteValue) × (above : ℕ) × IsKnownWriteOf caller.old.tried.seen asked above caller.old.pass.seen flow.old.seen }
+        ensures later { IsLater caller.old.pass caller.new.pass }
+        ensures known { KnowsMore caller.old.tried caller.new.tried }
         ensures of { flow.new.shards ≡ B.shards }
         ensures rests { flow.new.seen.awaited ≡ None }
-        ensures held { B.rests → (asked : WriteValue) (above : ℕ) → above ≤ length pass.old.seen → IsKnownWriteOf tried.old.seen asked above pass.old.seen flow.old.seen
-            → IsKnownWriteOf tried.new.seen asked above pass.new.seen flow.new.seen }
+        ensures held { B.rests → (asked : WriteValue) (above : ℕ) → above ≤ length caller.old.pass.seen → IsKnownWriteOf caller.old.tried.seen asked above caller.old.pass.seen flow.old.seen
+            → IsKnownWriteOf caller.new.tried.seen asked above caller.new.pass.seen flow.new.seen }
         ensures told { RefusesAsTold B.shards told.old flow.old.seen → RefusesAsTold B.shards told.new flow.new.seen }
     {
         let Some(call) = Running::next_call(flow) else {
             unreachable!()
         };
-        let reply = self.make(rt, pass, tried, told, call);
+        let reply = self.make(rt, caller, told, call);
         Running::give(flow, reply);
     }
 
@@ -68,26 +64,24 @@ impl<D: Device, B: Room, G: Gate> Store<D, B, G> {
     fn run_write<R: Wait>(
         &self,
         rt: &R,
-        pass: &mut SessionPass<Entry>,
-        tried: &mut Tried<B>,
+        caller: &mut Caller<B>,
         told: &mut Told,
         mut flow: WriteFlow,
     ) -> WriteFlow
-        requires own { pass.old.table ≡ B.log }
         requires of { flow.shards ≡ B.shards }
         requires rests { flow.seen.awaited ≡ None }
-        requires asked { (asked : WriteValue) × IsKnownWriteOf tried.old.seen asked (length pass.old.seen) pass.old.seen flow.seen }
-        ensures later { IsLater pass.old pass.new }
+        requires asked { (asked : WriteValue) × IsKnownWriteOf caller.old.tried.seen asked (length caller.old.pass.seen) caller.old.pass.seen flow.seen }
+        ensures later { IsLater caller.old.pass caller.new.pass }
         ensures ended { is_some result.seen.ended ≡ true }
-        ensures held { B.rests → (asked : WriteValue) (above : ℕ) → above ≤ length pass.old.seen → IsKnownWriteOf tried.old.seen asked above pass.old.seen flow.seen
-            → IsKnownWriteOf tried.new.seen asked above pass.new.seen result.seen }
+        ensures held { B.rests → (asked : WriteValue) (above : ℕ) → above ≤ length caller.old.pass.seen → IsKnownWriteOf caller.old.tried.seen asked above caller.old.pass.seen flow.seen
+            → IsKnownWriteOf caller.new.tried.seen asked above caller.new.pass.seen result.seen }
         ensures told { RefusesAsTold B.shards told.old flow.seen → RefusesAsTold B.shards told.new result.seen }
     {
         for _ in rt.forever() {
             if flow.next_name().is_none() {
                 return flow;
             }
-            self.write_turn(rt, pass, tried, told, &mut flow);
+            self.write_turn(rt, caller, told, &mut flow);
         }
         unreachable!()
     }
@@ -104,16 +98,16 @@ impl<D: Device, B: Room, G: Gate> Store<D, B, G> {
         told: &mut Told,
         write: Write,
     ) -> WriteEnd
-        ensures caller { IsLater caller.old caller.new }
-        ensures wrote { B.rests → WriteEnds write (length caller.old.seen) caller.new.seen result }
-        ensures refused { WriteRefuses caller.old caller.new told.new result }
+        ensures caller { IsLater caller.old.pass caller.new.pass }
+        ensures wrote { B.rests → WriteEnds write (length caller.old.pass.seen) caller.new.pass.seen result }
+        ensures refused { WriteRefuses caller.old.pass caller.new.pass told.new result }
         ensures uncancelled { result ≢ WriteEnd.Cancelled }
     {
         let flow = match WriteFlow::new(alloc, self.count, write) {
             Ok(flow) => flow,
             Err(refusal) => return WriteEnd::Refused(refusal),
         };
-        let flow = self.run_write(rt, &mut caller.pass, &mut caller.tried, told, flow);
+        let flow = self.run_write(rt, caller, told, flow);
         match flow.finish() {
             Some(end) => {
                 self.ring_behind(&end);

@@ -7,13 +7,13 @@ use Rattle.tuples.specs.Reads.{IsSelection}
 use Rattle.tuples.specs.Versions.{there_at}
 use Rattle.tuples.specs.Walking.{IsCheckSelection}
 
--- so many tuples are there at the place and meet the tupleset
+-- this many tuples are there at the place and meet the tupleset
 pub record Found (rows : List Version) (place : ℕ) (q : Tupleset) (n : ℕ) : Type 0 where
   pub tuples : List Tuple
   pub selected : IsSelection (there_at rows place) q tuples
   pub number : n ≡ length tuples
 
--- so many tuples are there at the place, of those that a check asks of the userset of this tuple for its user
+-- this many tuples are there at the place, of those that a check asks of the userset of this tuple for its user
 pub record FoundForCheck (rows : List Version) (place : ℕ) (t : Tuple) (n : ℕ) : Type 0 where
   pub tuples : List Tuple
   pub selected : IsCheckSelection (there_at rows place) (record { object = t.object; relation = t.relation }) t.user tuples

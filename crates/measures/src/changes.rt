@@ -2,14 +2,14 @@
 use std::alloc::Global;
 use tuples::{Change, Refusal, Tuple};
 
-/// Puts a touch of the tuple with this text behind these changes.
+/// Appends a touch of the tuple with this text to these changes.
 pub fn push_touch(alloc: Global, changes: &mut Vec<Change>, text: &[u8]) -> Result<(), Refusal> {
     changes.reserve(1)?;
     changes.push_reserved(Change::Touch(Tuple::parse(alloc, text)?));
     Ok(())
 }
 
-/// The same of so many tuples, whose texts have a number from 0 on between these parts.
+/// The same for this many tuples, whose texts have a number from 0 on between these parts.
 pub fn push_touches(
     alloc: Global,
     changes: &mut Vec<Change>,

@@ -23,7 +23,7 @@ fn encode_all(records: &[Record], out: &mut Vec<u8>) -> Result<(), AllocError>
     Ok(())
 }
 
-// How many bytes were written in so many rounds.
+// How many bytes were written in this many rounds.
 fn encode_rounds(records: &[Record], out: &mut Vec<u8>, rounds: u32) -> Result<u64, Refusal>
     requires { AreRecords records.now }
 {
@@ -35,7 +35,7 @@ fn encode_rounds(records: &[Record], out: &mut Vec<u8>, rounds: u32) -> Result<u
     Ok(size)
 }
 
-// How many records were read in so many rounds.
+// How many records were read in this many rounds.
 fn decode_rounds(alloc: Global, bytes: &[u8], rounds: u32) -> Result<u64, Refusal> {
     let mut count: u64 = 0;
     for _ in 0..rounds {
@@ -44,13 +44,13 @@ fn decode_rounds(alloc: Global, bytes: &[u8], rounds: u32) -> Result<u64, Refusa
     Ok(count)
 }
 
-/// Writes (`encode`) and reads (`decode`) a batch so often, and prints how many records that were, and how long each took.
+/// Writes (`encode`) and reads (`decode`) a batch this often, and prints how many records that were, and how long each took.
 pub fn measure(rt: &(impl Clock + Eprint), alloc: Global, rounds: u32) -> Result<(), Refusal> {
     let bytes = batch_of(alloc, RECORDS)?;
     measure_of(rt, alloc, &bytes, rounds)
 }
 
-// What is measured is lent, since each way out of a function that owns it is proved.
+// What is measured is borrowed, since each exit of a function that owns it is proved.
 fn measure_of(
     rt: &(impl Clock + Eprint),
     alloc: Global,

@@ -7,7 +7,7 @@ use crate::timing::{now, print_since};
 use std::alloc::{AllocError, Global};
 use std::rt::Clock;
 use tuples::{Change, Refusal, Tuple, Userset};
-use versions::Versions;
+use versions::{Budget, Versions};
 
 // How many usersets the userset holds.
 const USERSETS: u32 = 10;
@@ -15,8 +15,8 @@ const USERSETS: u32 = 10;
 // How often it is asked.
 const READS: u64 = 1000;
 
-/// Gives a userset so many plain users and ten usersets, and asks of it what a check asks, for one of the users (`check`), and prints how
-/// long it took. What it answers is how many tuples were found.
+/// Gives a userset this many plain users and ten usersets, and asks of it what a check asks, for one of the users (`check`), and prints
+/// how long it took. Its answer is how many tuples were found.
 pub fn measure(rt: &(impl Clock + Eprint), alloc: Global, users: u32) -> Result<(), Refusal> {
     let asked = Tuple::parse(alloc, b"doc:d#viewer@u0")?;
     let mut versions = Versions::new(alloc);
@@ -26,7 +26,7 @@ pub fn measure(rt: &(impl Clock + Eprint), alloc: Global, users: u32) -> Result<
     measured
 }
 
-// What is measured is lent, since each way out of a function that owns it is proved.
+// What is measured is borrowed, since each exit of a function that owns it is proved.
 fn measure_in(
     rt: &(impl Clock + Eprint),
     alloc: Global,
@@ -76,7 +76,7 @@ fn found(alloc: Global, versions: &Versions, asked: &Tuple) -> Result<usize, All
     ensures { IfOk result (λ n. FoundForCheck versions.now 1 asked.now n) }
 {
     let userset = userset_of(asked)?;
-    let tuples = versions.asked_at(alloc, 1, &userset, &asked.user);
+    let tuples = versions.asked_at(alloc, 1, &userset, &asked.user, &mut Budget::unbounded());
     drop(userset);
     Ok(tuples?.len())
 }

@@ -9,14 +9,14 @@ use tuples::{Changes, Conditions, Entry, Refusal, WriteId};
 // How often a write is taken and released.
 const TURNS: u32 = 1000;
 
-/// Holds so many writes of one change each, and takes and releases one write more, again and again (`holds`), and prints how long it took.
-/// What it answers is how many writes are held at the end.
+/// Holds this many writes of one change each, and takes and releases one more write, again and again (`holds`), and prints how long it
+/// took. Its answer is how many writes are held at the end.
 pub fn measure(rt: &(impl Clock + Eprint), alloc: Global, writes: u32) -> Result<(), Refusal> {
     let mut holds = Holds::new(alloc);
     measure_in(rt, alloc, &mut holds, writes)
 }
 
-// What is measured is lent, since each way out of a function that owns it is proved.
+// What is measured is borrowed, since each exit of a function that owns it is proved.
 fn measure_in(
     rt: &(impl Clock + Eprint),
     alloc: Global,

@@ -135,7 +135,7 @@ fn load_by<R: Threads + Sync>(
     }
 }
 
-/// Loads by so many threads at once; prints how long they took.
+/// Loads by this many threads at once; prints how long they took.
 pub fn measure<R: Clock + Eprint + Threads + Sync>(
     rt: &R,
     alloc: Global,

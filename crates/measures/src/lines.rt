@@ -1,4 +1,4 @@
-// How many request lines a session answers, over memory, where what it asks costs nothing.
+// How many request lines a session answers, over memory, if what it asks costs nothing.
 use crate::timing::{now, print_since};
 use answers::{Events, Membership, Rows, Written};
 use sessions::{Answers, serve_stream};
@@ -18,7 +18,7 @@ pub enum Kind {
 }
 
 impl Kind {
-    // A request of two tuples, tuplesets or namespaces where it takes several, and of a zookie.
+    // A request of two tuples, tuplesets or namespaces if it takes several, and of a zookie.
     fn line(self) -> &'static str {
         match self {
             Kind::Write => {
@@ -88,7 +88,7 @@ impl Answers for Idle {
     }
 }
 
-// So many lines of this kind.
+// This many lines of this kind.
 fn push_lines(input: &mut Vec<u8>, kind: Kind, count: u32) -> Result<(), AllocError> {
     for _ in 0..count {
         input.extend_from_slice(kind.line().as_bytes())?;
@@ -97,7 +97,7 @@ fn push_lines(input: &mut Vec<u8>, kind: Kind, count: u32) -> Result<(), AllocEr
     Ok(())
 }
 
-/// Answers so many lines of one kind, and prints how long they took. What it answers is how many were asked, and the bytes of the answers.
+/// Answers this many lines of one kind, and prints how long they took. Its answer is how many were asked, and the bytes of the answers.
 pub fn measure(
     rt: &(impl Clock + Eprint),
     alloc: Global,
@@ -111,7 +111,7 @@ pub fn measure(
     measure_in(rt, alloc, &input, &mut output, &mut idle, count)
 }
 
-// What is measured is lent, since each way out of a function that owns it is proved.
+// What is measured is borrowed, since each exit of a function that owns it is proved.
 fn measure_in(
     rt: &(impl Clock + Eprint),
     alloc: Global,

@@ -100,7 +100,7 @@ fn hand_over<R: Threads + Wait + Sync>(
     sum
 }
 
-// The sum of the numbers that were taken, where there is a worker.
+// The sum of the numbers that were taken, if there is a worker.
 fn pass_on<R: Threads + Wait + Sync>(
     rt: &R,
     queue: &Connections<u64>,
@@ -121,7 +121,7 @@ fn pass_on<R: Threads + Wait + Sync>(
     }
 }
 
-/// So many pairs of a put and a take, by one thread or by one each; prints how long they took.
+/// This many pairs of a put and a take, by one thread or by one each; prints how long they took.
 pub fn measure<R: Clock + Eprint + Threads + Wait + Sync>(
     rt: &R,
     alloc: Global,

@@ -7,7 +7,7 @@ use crate::timing::{now, print, print_since, since};
 use std::alloc::{AllocError, Global};
 use std::rt::Clock;
 use tuples::{Change, Refusal, Tupleset};
-use versions::Versions;
+use versions::{Budget, Versions};
 
 // How many tuples an object has.
 const USERS: u32 = 10;
@@ -23,10 +23,10 @@ const OF_ROWS: &[(&str, &str)] = &[("key", "doc:d5#viewer@u3"), ("object", "doc:
 
 const OF_CROWD: &[(&str, &str)] = &[("crowded", "doc:crowd#editor"), ("user", "doc@me")];
 
-/// Applies so many rows, a write of one change each (`apply`), reads a key (`key`) and an object (`object`) of them, and with a crowd beside
-/// them the ten editors of what it views (`crowded`) and the ten objects of one user (`user`). Then it asks for the newest place of each
-/// tuple (`last`), and forgets half of the rows once each tuple was changed again (`collect`). It prints how long each took. What a read
-/// answers is how many tuples it found.
+/// Applies this many rows, a write of one change each (`apply`), reads a key (`key`) and an object (`object`) of them, and with a crowd
+/// beside them the ten editors of what it views (`crowded`) and the ten objects of one user (`user`). Then it asks for the newest place of
+/// each tuple (`last`), and forgets half of the rows once each tuple was changed again (`collect`). It prints how long each took. What a
+/// read answers is how many tuples it found.
 pub fn measure(rt: &(impl Clock + Eprint), alloc: Global, rows: u32) -> Result<(), Refusal> {
     let mut versions = Versions::new(alloc);
     let mut changes = Vec::new(alloc);
@@ -34,7 +34,7 @@ pub fn measure(rt: &(impl Clock + Eprint), alloc: Global, rows: u32) -> Result<(
     measure_all(rt, alloc, &mut versions, &mut changes, &mut crowd, rows)
 }
 
-// What is measured is lent, since each way out of a function that owns it is proved.
+// What is measured is borrowed, since each exit of a function that owns it is proved.
 fn measure_all(
     rt: &(impl Clock + Eprint),
     alloc: Global,
@@ -106,7 +106,7 @@ fn read(
     name: &str,
     set: &Tupleset,
 ) -> Result<(), Refusal> {
-    // One read stands before the clock, so that what came before the reads, as memory that was just given back, does not count.
+    // One read comes before the clock starts, so that what came before the reads, as memory that was just given back, does not count.
     let mut tuples = found(alloc, versions, place, set)?;
     let start = now(rt);
     for _ in 0..READS {
@@ -124,7 +124,7 @@ fn found(
 ) -> Result<usize, AllocError>
     ensures { IfOk result (λ n. Found versions.now place set.now n) }
 {
-    let tuples = versions.at(alloc, place, set)?;
+    let tuples = versions.at(alloc, place, set, &mut Budget::unbounded())?;
     Ok(tuples.len())
 }
 

@@ -12,7 +12,7 @@ const HEAD: &[&[u8]] = &[&[VERSION]];
 // A prepare up to the number of its write in epoch 1, of whose eight bytes the last two follow.
 const PREPARE: &[&[u8]] = &[&[1, 0, 0, 0, 0, 0, 0, 0, 1, 0, 0, 0, 0, 0, 0]];
 
-// Behind it a touch of `doc:a#viewer@u1`, and the condition that it is not there.
+// After it a touch of `doc:a#viewer@u1`, and the condition that it is not there.
 const TOUCH_WHERE_ABSENT: &[u8] = &[
     1, 1, 3, 0x64, 0x6f, 0x63, 1, 0x61, 6, 0x76, 0x69, 0x65, 0x77, 0x65, 0x72, 1, 2, 0x75, 0x31, 1,
     3, 0x64, 0x6f, 0x63, 1, 0x61, 6, 0x76, 0x69, 0x65, 0x77, 0x65, 0x72, 1, 2, 0x75, 0x31, 3,
@@ -25,7 +25,7 @@ const LEARNED: &[&[u8]] = &[
     &[0, 0, 0, 0, 0, 0],
 ];
 
-// These bytes, the number behind each of them, and then the rest.
+// These bytes, the number after each of them, and then the rest.
 fn push_numbered(
     bytes: &mut Vec<u8>,
     parts: &[&[u8]],
@@ -52,7 +52,7 @@ fn push_batch(bytes: &mut Vec<u8>, count: u16) -> Result<(), AllocError> {
     Ok(())
 }
 
-/// The bytes of a batch of so many records.
+/// The bytes of a batch of this many records.
 pub fn batch_of(alloc: Global, count: u16) -> Result<Vec<u8>, AllocError> {
     let mut bytes = Vec::new(alloc);
     push_batch(&mut bytes, count)?;

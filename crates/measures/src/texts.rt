@@ -11,8 +11,8 @@ use tuples::{Refusal, Tuple};
 // How many texts there are; a longer measure goes over them again.
 const TEXTS: u32 = 1000;
 
-/// Reads so many tuples, to the next thousand below, from their texts (`parse`) and writes them (`write`), and prints how long
-/// each took. What it answers is how many tuples or bytes the last pass made.
+/// Reads this many tuples, to the next thousand below, from their texts (`parse`) and writes them (`write`), and prints how
+/// long each took. Its answer is how many tuples or bytes the last pass made.
 pub fn measure(rt: &(impl Clock + Eprint), alloc: Global, count: u32) -> Result<(), Refusal> {
     let mut texts = Vec::new(alloc);
     let mut tuples = Vec::new(alloc);
@@ -20,7 +20,7 @@ pub fn measure(rt: &(impl Clock + Eprint), alloc: Global, count: u32) -> Result<
     measure_all(rt, alloc, &mut texts, &mut tuples, &mut out, count)
 }
 
-// What is measured is lent, since each way out of a function that owns it is proved.
+// What is measured is borrowed, since each exit of a function that owns it is proved.
 fn measure_all(
     rt: &(impl Clock + Eprint),
     alloc: Global,
@@ -69,7 +69,7 @@ fn parse_again(
     Ok(tuples.len() as u64)
 }
 
-// The tuples of the texts, in place of those that were there.
+// The tuples of the texts, instead of those that were there.
 fn parse_all(alloc: Global, texts: &[Vec<u8>], tuples: &mut Vec<Tuple>) -> Result<(), Refusal>
     ensures { OnOk result (map tuple_text tuples.new.items ≡ map (λ t. t.items) texts.now) }
 {
@@ -88,7 +88,7 @@ fn write_again(tuples: &[Tuple], out: &mut Vec<u8>, passes: u32) -> Result<u64, 
     Ok(out.len() as u64)
 }
 
-// The texts of the tuples, one behind the other, in place of what was there.
+// The texts of the tuples, one after another, instead of what was there.
 fn write_all(tuples: &[Tuple], out: &mut Vec<u8>) -> Result<(), AllocError>
     ensures { OnOk result (out.new.items ≡ flat_map tuple_text tuples.now) }
 {

@@ -1,9 +1,9 @@
-// What a measure found. Until it is printed, neither the clock nor what was done is asked whether it failed, so that a measure has few ways out.
+// What a measure found. Until it is printed, neither the clock nor what was done is asked whether it failed, so that a measure has few exits.
 use std::rt::Clock;
 use std::time::{Duration, Instant};
 use tuples::Refusal;
 
-/// What the clock says, or `Down` where it says nothing.
+/// What the clock says, or `Down` if it says nothing.
 pub fn now(rt: &impl Clock) -> Result<Instant, Refusal> {
     match Instant::now(rt) {
         Ok(now) => Ok(now),
@@ -19,7 +19,7 @@ pub fn since(rt: &impl Clock, start: Instant) -> Result<Duration, Refusal> {
     }
 }
 
-/// Prints the name, how much was done, the nanoseconds since then, and the answer, where neither the clock nor what was done was refused. The
+/// Prints the name, how much was done, the nanoseconds since then, and the answer, if neither the clock nor what was done was refused. The
 /// amount is of calls, records, tuples or bytes; the answer is made of what the calls gave, so that none can be left out.
 pub fn print_since(
     rt: &(impl Clock + Eprint),

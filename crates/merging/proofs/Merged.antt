@@ -1,4 +1,4 @@
--- What is merged has each version of the lists; it is in order where they are, and so are those that pass a test.
+-- What is merged has each version of the lists; it is in order if they are, and so are those that pass a test.
 use Rattle.std.proofs.Common.{◌≡◌, ◌++◌, Bool, true, true≢false, false, filter, map, List, [], ◌∷◌, ⊎_elim, refl, sym, ◌∙◌, ap, subst}
 use Rattle.std.specs.List.{AllByRecursion}
 use Rattle.std.specs.List.Sorted.{IsPermutation, IsSorted}
@@ -46,7 +46,7 @@ merge_each : (P : Version → Type 0) (xs ys : List Version) → AllByRecursion 
 merge_each P [] ys one other = other
 merge_each P (x ∷ xs) ys one other = into_each P x xs ys one.0 (λ zs each. merge_each P xs zs one.1 each) other
 
--- none is below what none of those is below that stand above it
+-- if none is below x, none is below what x is not below
 none_below : (x y : Version) (xs : List Version) → is_below x y ≡ false → NoneBelow x xs → NoneBelow y xs
 none_below x y xs high none = each_weaker (λ (u : Version). is_below u x ≡ false) (λ (u : Version). is_below u y ≡ false) (λ u is. version_ranks.chain u x y is high) xs none
 

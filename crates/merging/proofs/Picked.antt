@@ -5,7 +5,7 @@ use Rattle.tuples.specs.declared.version.Version.{Version}
 use Rattle.merging.specs.Merging.{is_lower, merge, merged}
 use Rattle.merging.specs.Picking.{BeginsWith, Picks}
 
--- one list more, before those of which one was picked
+-- one more list, before those of which one was picked
 module _ (w : List Version) (ws : List (List Version)) (i : ℕ) where
   -- the one that was picked has a lower version first
   stays : (l : List Version) → BeginsWith ws i l → is_lower l w ≡ true → BeginsWith (w ∷ ws) (suc i) l

@@ -1,4 +1,4 @@
--- Lists of versions in order, as what each version says of those behind it.
+-- Lists of versions in order, as what each version says of those after it.
 use Rattle.std.proofs.Common.{◌≡◌, ◌≤◌, ◌<◌, ◌+◌, ℕ, zero, suc, Bool, false, filter, List, [], ◌∷◌, length, ⊎_elim, slice_index_or, sym, subst, arith}
 use Rattle.std.specs.List.{AllByRecursion}
 use Rattle.std.specs.List.Sorted.{IsSorted}

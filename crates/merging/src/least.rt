@@ -5,7 +5,7 @@ ghost use Rattle.merging.specs.Picking.{Picks};
 
 use crate::own::{Head, Own, is_lower};
 
-// Whether the list at the one place, if there is one, has a lower version first than that at the other.
+// Whether the list at one index, if there is one, has a lower first version than the list at the other.
 fn is_lower_at(owns: &[Own<'_>], one: usize, other: usize) -> bool
     requires { other < length owns.now }
     ensures { result ≡ stands_lower (get_or owns.now one []) (get_or owns.now other []) }
@@ -16,7 +16,7 @@ fn is_lower_at(owns: &[Own<'_>], one: usize, other: usize) -> bool
     }
 }
 
-// The place of the list whose first version comes first of all.
+// The index of the list whose first version is the lowest.
 fn least(owns: &[Own<'_>]) -> usize
     ensures { Picks owns.now result }
 {
@@ -31,7 +31,7 @@ fn least(owns: &[Own<'_>]) -> usize
     least
 }
 
-/// The lowest version of all that are left, which its list has told then.
+/// The lowest version of all that are left; its list moves past it.
 pub(crate) fn next<'a>(owns: &mut [Own<'a>]) -> Option<Head<'a>>
     ensures { MatchOption result (merged owns.old ≡ []) (λ h. merged owns.old ≡ version_at h ∷ merged owns.new) }
 {

@@ -1,8 +1,9 @@
-//! The versions that several memories have, as one list in order, of which a new node is told its own.
+//! The versions of several memories as one list in order, of which a new node gets its own.
 //!
-//! Keeps: by tuple and then by place, each version once; nothing is copied but where in its memory each walk stands.
+//! Keeps: by tuple and then by place, each version once; nothing is copied but the position of each walk in its
+//! memory.
 //! Never: touches a device, or looks at a write in doubt.
-//! Callers rely on: what is told for a node is exactly its own of the merged list, behind the records that were given.
+//! Callers rely on: a node gets exactly its own of the merged list, after the records that were given.
 //!
 //! Start at `specs/Merging.antt` and `rows.rt`.
 #![tactic(auto)]

@@ -13,14 +13,14 @@ use std::marker::Model;
 use tuples::{Tuple, shard_of};
 use versions::{Row, Walk};
 
-/// A version, told by where it lies.
+/// A version, named by where it lies.
 #[derive(Clone, Copy)]
 pub(crate) struct Head<'a> {
     pub tuple: &'a Tuple,
     pub row: Row,
 }
 
-/// The versions of a memory that are the node's and are left, of which the first is at hand.
+/// The versions of a memory that are the node's and are left, the first of them at hand.
 #[derive(Drop)]
 pub(crate) struct Own<'a> {
     first: Option<Head<'a>>,
@@ -39,7 +39,7 @@ impl<'a> Model for Own<'a> {
     ghost view = { λ o. left_of o.first (of_shard o.me.shards o.me.node o.walk) };
 }
 
-// Whether the tuple is of the node.
+// Whether the tuple is the node's.
 fn is_own(tuple: &Tuple, me: Identity) -> bool
     ensures { result ≡ is_of me.shards me.node tuple.now }
 {
@@ -68,7 +68,7 @@ impl<'a> Own<'a> {
         Own { first, walk, me }
     }
 
-    /// The next version, which is told then.
+    /// The next version; moves past it.
     pub fn next(&mut self) -> Option<Head<'a>>
         ensures { MatchOption result ((self.old ≡ []) × (self.new ≡ [])) (λ h. self.old ≡ version_at h ∷ self.new) }
     {
@@ -87,7 +87,7 @@ fn compare(a: Head<'_>, b: Head<'_>) -> Ordering
     tuples.then(a.row.place.cmp(&b.row.place))
 }
 
-/// Whether the first version of the one is below that of the other, by tuple and then by place. One without any stands above all others.
+/// Whether the first version of the one is below that of the other, by tuple and then by place. One without any counts as above all others.
 pub(crate) fn is_lower(a: &Own<'_>, b: &Own<'_>) -> bool
     ensures { result ≡ stands_lower a.now b.now }
 {

@@ -14,7 +14,7 @@ use replay::Memory;
 use std::alloc::{AllocError, Global};
 use std::marker::Model;
 
-/// The versions of several memories, which contracts see as the list of each. Nothing is copied.
+/// The versions of several memories; contracts see them as the list of each. Nothing is copied.
 #[derive(Drop)]
 pub struct Rows<'a> {
     memories: Vec<&'a Memory>,
@@ -36,7 +36,7 @@ impl<'a> Model for Rows<'a> {
 }
 
 impl<'a> Rows<'a> {
-    /// Those of no memory, which takes no memory itself.
+    /// Those of no memory; allocates nothing itself.
     pub fn new(alloc: Global) -> Rows<'a>
         ensures { result ≡ [] }
     {
@@ -45,7 +45,7 @@ impl<'a> Rows<'a> {
         }
     }
 
-    /// Those of one memory more.
+    /// Those of one more memory.
     pub fn push(&mut self, memory: &'a Memory) -> Result<(), AllocError>
         requires { (t : AnyTuple) → Rise (of_tuple t memory.now.rows) }
         ensures { OnOk result (self.new ≡ self.old ++ memory.now.rows ∷ []) }
@@ -58,7 +58,7 @@ impl<'a> Rows<'a> {
         }
     }
 
-    /// The merged list is in order, and has each version of all lists, and no other. It does nothing.
+    /// The merged list is in order, and has each version of all lists, and no other. Does nothing.
     pub fn keeps_order(&self)
         ensures in_order { IsSorted version_cmp (merged self.now) }
         ensures same { IsPermutation (all_of self.now) (merged self.now) }

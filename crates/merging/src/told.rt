@@ -14,7 +14,7 @@ use records::{Identity, Record};
 use std::alloc::{AllocError, Global};
 use std::marker::Model;
 
-/// The records that are left: those before the versions, and those of the versions that are the node's, by tuple and then by place. Nothing is copied for them.
+/// The records that are left: those before the versions, and those of the node's versions, by tuple and then by place. Nothing is copied for them.
 #[derive(Drop)]
 pub struct Told<'h, 'r> {
     heads: &'h [Record],
@@ -36,7 +36,7 @@ impl<'h, 'r> Model for Told<'h, 'r> {
 }
 
 impl<'h, 'r> Told<'h, 'r> {
-    /// The versions that are the node's, behind these records. It takes the memory of a few words for each list.
+    /// The node's versions, after these records. It takes the memory of a few words for each list.
     pub fn new(
         alloc: Global,
         heads: &'h [Record],

@@ -14,7 +14,7 @@ IsFound events stopped failures = IsFresh (image events).seen (life_state events
 abbrev pub HostDevice : Type 0
 HostDevice = FileDevice HostFile ghosts
 
--- what `Device` asks of every device, of one over a file
+-- what `Device` asks of every device, for one over a file
 abbrev pub state_of : HostDevice → State
 state_of d = life_state d.history.events d.is_stopped d.failures
 

@@ -11,14 +11,14 @@ use std::alloc::Global;
 use std::sync::Arc;
 use tuples::Shards;
 
-/// Which folders a store is opened in.
+/// In which folders a store is opened.
 #[derive(Clone, Copy, Debug, PartialEq, Eq)]
 pub enum Mode {
-    /// One that has a store, or no file of one: there a store is made.
+    /// One that has a store, or no file of one: then a store is made there.
     Serve,
     /// One that has a store.
     Existing,
-    /// One that has a store, of which nothing is written: what is written to its devices is let go.
+    /// One that has a store, of which nothing is written: what is written to its devices is discarded.
     Look,
     /// One that has no file of a store: a store is made.
     New,
@@ -33,20 +33,20 @@ pub struct Opened {
     pub pulses: Vec<Arc<Pulse, Global>>,
     /// Whether the store was made.
     pub is_new: bool,
-    /// That the coordinator's files are of another store, where they tell so. Who opens the store is refused with `Damaged` then: this is only to tell why.
+    /// That the coordinator's files are of another store, if they say so. Opening the store is then refused with `Damaged`; this only says why.
     pub other: Option<Cause>,
 }
 
-// The files of the folder are opened so.
+// How the files of the folder are opened.
 #[derive(Clone, Copy)]
 struct Files<'a> {
     folder: &'a str,
     access: Access,
-    // of all of them
+    // shared by all of them
     asking: &'a Arc<Pulse, Global>,
 }
 
-// A file that is missing where others have something was there: all are made before any has two bytes.
+// A file that is missing while others have something was there once: all are made before any has two bytes.
 fn open_file(
     rt: &HostRuntime,
     files: Files<'_>,
@@ -75,7 +75,7 @@ fn open_file(
     }
 }
 
-// Opens the file of a bank of a node, behind the others.
+// Opens the file of a bank of a node, after the others.
 fn open_next(
     rt: &HostRuntime,
     files: Files<'_>,
@@ -101,7 +101,7 @@ fn open_next(
     }
 }
 
-// Opens the files of both banks of a node, behind the others.
+// Opens the files of both banks of a node, after the others.
 fn open_two(
     rt: &HostRuntime,
     files: Files<'_>,
@@ -115,7 +115,7 @@ fn open_two(
     open_next(rt, files, node, 'b', devices)
 }
 
-// Opens the files of a shard, behind the others.
+// Opens the files of a shard, after the others.
 fn open_shard(
     rt: &HostRuntime,
     files: Files<'_>,
@@ -131,7 +131,7 @@ fn open_shard(
     }
 }
 
-// Opens the files of each node, where none was opened yet.
+// Opens the files of each node, if none was opened yet.
 fn fill(
     rt: &HostRuntime,
     files: Files<'_>,
@@ -149,7 +149,7 @@ fn fill(
     Ok(())
 }
 
-// How the files of the folder are opened, by what it has.
+// How to open the files of the folder, by what it has.
 fn access_to(rt: &HostRuntime, folder: &str, mode: Mode) -> Result<Access, Unopened> {
     match (mode, survey(rt, folder)?) {
         (Mode::Serve, Findings::Nothing | Findings::Begun) => Ok(Access::Make),
@@ -161,8 +161,8 @@ fn access_to(rt: &HostRuntime, folder: &str, mode: Mode) -> Result<Access, Unope
     }
 }
 
-// The names of files that were made, or are there already and may have been made by a start that was cut off, become durable, and so does that of the folder
-// if its own can be looked at.
+// Makes the files' names durable, those of existing files too, since a start that was cut off may have made them; and the folder's own, if its parent can be
+// looked at.
 fn sync_names(rt: &HostRuntime, files: Files<'_>) -> Result<(), Unopened> {
     let folder = files.folder;
     if files.access == Access::Look {
@@ -175,13 +175,13 @@ fn sync_names(rt: &HostRuntime, files: Files<'_>) -> Result<(), Unopened> {
         let Ok(parent) = format!(in rt.alloc(); "{folder}/..") else {
             return Err(no_memory(rt));
         };
-        // A folder that may not be read, or is of another file system, is nobody's fault here.
+        // A parent that may not be read, or is on another file system, is nobody's fault here.
         let _ = sync_folder(rt, parent.as_str());
     }
     Ok(())
 }
 
-// Opens the files of each node, whose names are durable then.
+// Opens the files of each node, and makes their names durable.
 fn open_named(
     rt: &HostRuntime,
     files: Files<'_>,
@@ -196,7 +196,7 @@ fn open_named(
     sync_names(rt, files)
 }
 
-// A file may be missing only since another number of shards was given.
+// A file may be missing only because another number of shards was given.
 fn explained(rt: &HostRuntime, folder: &str, other: Option<Cause>, why: Unopened) -> Unopened {
     match (why.cause, other) {
         (Cause::IsMissing, Some(other)) => unopened(rt, Refusal::Damaged, folder, other),
@@ -207,9 +207,9 @@ fn explained(rt: &HostRuntime, folder: &str, other: Option<Cause>, why: Unopened
 /// Opens, or makes, the two files of each node in the folder: `c.a` and `c.b` of the coordinator, and then those of each shard by rising number, as `0.a` and
 /// `0.b`. Each is locked for as long as its device lives.
 ///
-/// `Down` where the folder has no store and none is to be made, where it or a file can't be opened or made, is a link or no plain file, is too long, or where
-/// another process has it; `Damaged` where a file of a store that is there is missing, or where a folder for a new store has a file of one; `NoMemory` for its
-/// bytes. What was there is not changed, and where it is `Damaged` nothing is made.
+/// `Down` if the folder has no store and none is to be made, if it or a file can't be opened or made, is a link or not a plain file, is too long, or if
+/// another process has it; `Damaged` if a file of a store that is there is missing, or if a folder for a new store has a file of one; `NoMemory` for its
+/// bytes. Existing files are not changed, and nothing is made if it is `Damaged`.
 pub fn open_all(
     rt: &HostRuntime,
     folder: &str,

@@ -1,4 +1,4 @@
-// Which store a folder has, for whoever gave the id or the number of shards of another one.
+// Which store a folder has, for a caller who gave the id or the number of shards of another one.
 use files::{Cause, FileDevice, HostFile};
 use records::{Record, decode_batch};
 use std::alloc::Global;
@@ -7,7 +7,7 @@ use tuples::Shards;
 /// An open gate.
 pub(crate) const OPEN: u8 = 0xa5;
 
-// The first body of a list, and what stands behind it.
+// The first body of a list, and what follows it.
 fn next_body(list: &[u8]) -> Option<(&[u8], &[u8])> {
     let (head, rest) = list.split_first_chunk::<5>()?;
     let [gate, a, b, c, d] = *head;
@@ -17,7 +17,7 @@ fn next_body(list: &[u8]) -> Option<(&[u8], &[u8])> {
     rest.split_at_checked(u32::from_be_bytes([a, b, c, d]) as usize)
 }
 
-// The store and the number of shards that an opening has noted in this batch.
+// The store and the number of shards that an opening noted in this batch.
 fn noted_in(alloc: Global, body: &[u8]) -> Option<(u64, u8)> {
     let records = decode_batch(alloc, body).ok()?;
     records.iter().find_map(|record| match record {
@@ -26,7 +26,7 @@ fn noted_in(alloc: Global, body: &[u8]) -> Option<(u64, u8)> {
     })
 }
 
-// The same of a bank. An opening is noted in its first batch, or in the next one, behind the begin of a checkpoint.
+// The same for a bank. An opening is noted in its first batch, or in the next one, after the begin of a checkpoint.
 fn noted_at_first(alloc: Global, bank: &[u8]) -> Option<(u64, u8)> {
     let (first, rest) = next_body(bank)?;
     if let Some(noted) = noted_in(alloc, first) {
@@ -36,7 +36,7 @@ fn noted_at_first(alloc: Global, bank: &[u8]) -> Option<(u64, u8)> {
     noted_in(alloc, second)
 }
 
-/// That the folder has the store of another id, or of another number of shards, where the files of the coordinator, which are the first two, tell so.
+/// That the folder has the store of another id, or of another number of shards, if the files of the coordinator, the first two, say so.
 pub(crate) fn other_store(
     alloc: Global,
     devices: &[FileDevice<HostFile>],

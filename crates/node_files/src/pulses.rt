@@ -5,7 +5,7 @@ use files::{FileDevice, HostFile, Pulse};
 use std::alloc::{AllocError, Global};
 use std::sync::Arc;
 
-/// That of each device, in their order.
+/// The pulse of each device, in order.
 pub(crate) fn pulses(
     alloc: Global,
     devices: &[FileDevice<HostFile>],

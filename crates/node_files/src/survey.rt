@@ -12,14 +12,14 @@ use tuples::MAX_SHARDS;
 pub(crate) enum Findings {
     /// No file of a store.
     Nothing,
-    /// Files in which nothing is kept, as a start or a resharding leaves them that was cut off: no first gate is open, whatever stands behind it.
+    /// Files in which nothing is kept, as a start or a resharding that was cut off leaves them: no first gate is open, whatever follows it.
     Begun,
     /// A store.
     Store,
 }
 
 impl Findings {
-    // The one that tells more.
+    // The one that says more.
     fn or(self, other: Findings) -> Findings {
         match (self, other) {
             (Findings::Store, _) | (_, Findings::Store) => Findings::Store,
@@ -37,7 +37,7 @@ pub(crate) fn no_memory(rt: &HostRuntime) -> Unopened {
     }
 }
 
-/// The folder, or a file of it, can't be had.
+/// The folder, or a file of it, is unavailable.
 pub(crate) fn unopened(rt: &HostRuntime, refusal: Refusal, path: &str, cause: Cause) -> Unopened {
     match String::from_str(rt.alloc(), path) {
         Ok(path) => Unopened {
@@ -58,7 +58,7 @@ fn is_kept_in(rt: &HostRuntime, path: &str) -> io::Result<bool> {
 
 fn survey_path(rt: &HostRuntime, path: &str) -> Result<Findings, Unopened> {
     match fs::symlink_metadata(rt, path) {
-        // Of a file that can't be read its opening tells why.
+        // If a file can't be read, its opening says why.
         Ok(found) if found.is_file() && found.len() >= 2 && is_kept_in(rt, path).unwrap_or(true) =>
             { Ok(Findings::Store) }
         Ok(_) => Ok(Findings::Begun),
@@ -92,7 +92,7 @@ fn survey_shard(rt: &HostRuntime, folder: &str, shard: u8) -> Result<Findings, U
     }
 }
 
-/// What the folder has of a store of any number of shards. `Down` where the folder is none, or can't be looked at.
+/// What the folder has of a store of any number of shards. `Down` if it is not a folder, or can't be looked at.
 pub(crate) fn survey(rt: &HostRuntime, folder: &str) -> Result<Findings, Unopened> {
     match fs::metadata(rt, folder) {
         Ok(found) if found.is_dir() => {}

@@ -1,20 +1,20 @@
-// How it is told why a store can't be had.
+// What says why a store is unavailable.
 use files::{Cause, Unopened};
 use names::NodeName;
 use refusal::Refusal;
 use std::alloc::Global;
 use std::fmt;
 
-/// What a refusal is about. As a text it is a line of its own.
+/// What a refusal is about. Its text is a line of its own.
 #[derive(Debug, Drop)]
 pub enum About {
-    /// A file or a folder that can't be had.
+    /// A file or a folder that is unavailable.
     File(Unopened),
-    /// The files of the node have what it did not leave there.
+    /// The node's files have what it did not leave there.
     Damaged(NodeName),
     /// A file of the node could not be written or synced.
     Failed(NodeName),
-    /// The files of the shard are not of the same moment as those of the coordinator.
+    /// The shard's files are not of the same moment as the coordinator's.
     Apart(u8),
 }
 
@@ -44,7 +44,7 @@ impl fmt::Display for About {
     }
 }
 
-/// Why a command ends, as it is told on standard error: the refusal on a line, and what it is about on a second one, if that is known.
+/// Why a command ends, as it is printed on standard error: the refusal on a line, and what it is about on a second one, if that is known.
 #[derive(Debug, Drop)]
 pub struct Trouble {
     pub refusal: Refusal,
@@ -52,7 +52,7 @@ pub struct Trouble {
 }
 
 impl Trouble {
-    /// The node answers nothing but this refusal.
+    /// The node answers only this refusal.
     pub fn of_node(refusal: Refusal, node: NodeName) -> Trouble {
         let about = match refusal {
             Refusal::Damaged => Some(About::Damaged(node)),
@@ -62,7 +62,7 @@ impl Trouble {
         Trouble { refusal, about }
     }
 
-    /// The folder has not what it is to have.
+    /// The folder does not have what it is to have.
     pub fn of_folder(alloc: Global, folder: &str, refusal: Refusal, cause: Cause) -> Trouble {
         match String::from_str(alloc, folder) {
             Ok(path) => Trouble::from(Unopened {

@@ -19,7 +19,7 @@ opening_fits staged epoch store shards node none (inr long) =
     let short : 1048576 < length (batch_bytes false ([] ++ Epoch epoch store shards node ∷ [])) = subst (λ (l : List Record). 1048576 < length (batch_bytes false (l ++ Epoch epoch store shards node ∷ []))) none long in
     omega (arith, short)
 
--- time during a call, told by what is weaker
+-- what a call leaves, weakened
 pub leaves_weaker : {D : Type 0} (moment : D → ℕ) (left_since : D → ℕ → List ℕ → Type 0) (a b c d : D) (P Q : List ℕ → List ℕ → Type 0) → LeavesBoth moment left_since a b c d P → ((x y : List ℕ) → P x y → Q x y) → LeavesBoth moment left_since a b c d Q
 leaves_weaker moment left_since a b c d P Q l f = record {
   later_a = l.later_a;

@@ -7,7 +7,7 @@ use Rattle.records.specs.Replays.{greatest_number}
 use Rattle.device.specs.Device.{State}
 use Rattle.journal.specs.Records.{BankLacksRoom, HasRecords, IsOpened, View, WasLeftOrFound, found}
 
--- the records with one opening more
+-- the records with one more opening
 abbrev pub reopened : (List Record → ℕ) → Identity → List Record → List Record
 reopened epoch_in me rs = rs ++ Epoch (epoch_in rs + 1) me.store me.shards me.node ∷ []
 
@@ -18,7 +18,7 @@ pub record AreReplayed {M : Type 0} (IsImage : Identity → List Record → Type
   pub image : IsImage me rs
   pub made_of : IsMadeOf rs memory
 
--- a journal was opened over devices that had these records: they are those of this node, a memory was made of them, and one opening more is durable
+-- a journal was opened over devices that had these records: they are those of this node, a memory was made of them, and one more opening is durable
 pub record IsReopened {D M : Type 0} (state : D → State) (honest : D → Type 0) (IsImage : Identity → List Record → Type 0) (IsMadeOf : List Record → M → Type 0) (epoch_in : List Record → ℕ)
     (a b : D) (me : Identity) (journal : View D) (memory : M) : Type 0 where
   pub rs : List Record

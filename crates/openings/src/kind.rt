@@ -15,7 +15,7 @@ pub trait NodeKind {
     /// What is made of the records, and kept.
     type Memory: Drop;
 
-    /// A node of this kind may be so named.
+    /// A node of this kind may have this identity.
     ghost names: { AnyIdentity → Type 0 };
 
     /// The records are those of this node.
@@ -24,10 +24,10 @@ pub trait NodeKind {
     /// The memory was made of these records.
     ghost made_of: { List AnyRecord → Self.Memory → Type 0 };
 
-    /// How often a node of these records was opened.
+    /// How often a node with these records was opened.
     ghost epoch_in: { List AnyRecord → ℕ };
 
-    /// Replays the records. `Damaged` where they are not those of this node, or can't be read; `NoMemory`.
+    /// Replays the records. `Damaged` if they are not those of this node, or can't be read; `NoMemory`.
     fn replayed(alloc: Global, me: Identity, unread: Unread) -> Result<Self::Memory, Refusal>
         ensures ok { IfOk result (λ m. AreReplayed image made_of me unread.records m) }
         ensures damaged { IsErrOf result Refusal.Damaged → (rs : List AnyRecord) → unread.records ≡ Some rs → image me rs → ⊥ }
@@ -38,6 +38,6 @@ pub trait NodeKind {
         ensures value { (rs : List AnyRecord) → made_of rs memory.now → result ≡ epoch_in rs }
         ensures fits { (me : AnyIdentity) (rs : List AnyRecord) → image me rs → made_of rs memory.now → result ≤ greatest_number };
 
-    /// One opening more leaves them those of the node.
+    /// One more opening leaves them those of the node.
     ghost opens: { (me : AnyIdentity) (rs : List AnyRecord) → names me → image me rs → epoch_in rs < greatest_number → image me (reopened epoch_in me rs) };
 }

@@ -1,4 +1,4 @@
-// The records are replayed, and one opening more is made durable.
+// The records are replayed, and one more opening is made durable.
 ghost use Rattle.std.specs.Prelude.{◌≡◌, ◌⊎◌, ◌↔◌, ◌≤◌, ◌<◌, ◌+◌, ◌∷◌, [], List, Some, true, false, IfOk, IfErr, IsErr, IsErrOf, MatchResult};
 ghost use Rattle.refusal.specs.Refusals.{IsOneOf};
 ghost use Rattle.device.specs.Device.{HasFailed};
@@ -58,10 +58,10 @@ fn restored<N: NodeKind>(
     Ok((memory, epoch + 1))
 }
 
-/// Opens the node of this identity: its records are replayed, and one `Epoch` record more is made durable.
+/// Opens the node of this identity: replays its records, and makes one more `Epoch` record durable.
 ///
-/// Each refusal gives the devices back: `Down` where a call of a device failed, or the current bank has no room for the record; `NoMemory`; `Full`
-/// after the last epoch; and `Damaged` where the devices have no records of this node of this store.
+/// Each refusal returns the devices: `Down` if a call of a device failed, or the current bank has no room for the record; `NoMemory`; `Full` after
+/// the last epoch; and `Damaged` if the devices have no records of this node of this store.
 pub fn open<D: Device, N: NodeKind>(
     alloc: Global,
     a: D,

@@ -1,4 +1,4 @@
--- The lines of a list, one element more.
+-- The lines of a list, with one more element.
 use Rattle.std.proofs.Common.{◌≡◌, ℕ, ◌+◌, ◌<◌, List, [], ◌∷◌, ◌++◌, map, length, take, get_or, sym, ap, ◌∙◌, arith}
 use Rattle.std.specs.List.{flat_map}
 use Rattle.std.proofs.lemmas.Grind.{flat_map-append}
@@ -19,7 +19,7 @@ rows_push n m [] y e = sym (append-nil (flat_map (row_line n) y) ∙ same_number
 rows_push n m (x ∷ xs) y e =
     append_assoc (flat_map (row_line n) x) (row_lines (n + 1) xs) (flat_map (row_line m) y) ∙ ap (λ (l : List ℕ). flat_map (row_line n) x ++ l) (rows_push (n + 1) m xs y (omega arith))
 
--- the tuples of one tupleset more
+-- with the tuples of one more tupleset
 pub one_set_more : {A : Type 0} (f : A → List Tuple) (xs : List A) (i number : ℕ) (x : A) (rows : List Tuple) → i < length xs → x ≡ get_or xs i x → rows ≡ f x → number ≡ i + 1
     → row_lines 1 (map f (take i xs)) ++ flat_map (row_line number) rows ≡ row_lines 1 (map f (take (i + 1) xs))
 one_set_more {A} f xs i number x rows h is same counted =

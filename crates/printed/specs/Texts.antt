@@ -46,14 +46,14 @@ abbrev pub membership_word : Bool → List ℕ
 membership_word true = codes "yes"
 membership_word false = codes "no"
 
--- places are told by the tokens of this store
+-- places are written as the tokens of this store
 abbrev pub answer_text : ℕ → Answer → List ℕ
 answer_text store (answer.Written w) = told_line (codes "ok") store w.place
 answer_text store (answer.Rows r) = told_line (codes "at") store r.place ++ row_lines 1 (map (λ set. set.items) r.sets.items)
 answer_text store (answer.Membership m) = told_line (membership_word m.is_member) store m.place
 answer_text store (answer.Events e) = flat_map version_line e.events.items ++ told_line (codes "heartbeat") store e.heartbeat
 
--- a word, with the space behind it, and a name
+-- a word, with the space after it, and a name
 abbrev pub named_line : List ℕ → List ℕ → List ℕ
 named_line word name = word ++ name ++ 10 ∷ []
 

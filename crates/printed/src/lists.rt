@@ -35,7 +35,7 @@ fn push_row(out: &mut Text<'_>, number: u64, tuple: &Tuple)
     out.push(b"\n");
 }
 
-// The tuples of one tupleset, each with the number of that.
+// The tuples of one tupleset, each with that tupleset's number.
 fn push_set(out: &mut Text<'_>, number: u64, tuples: &[Tuple])
     ensures { Grown out.old out.new (flat_map (row_line number) tuples.now) }
 {

@@ -38,7 +38,7 @@ pub(crate) fn push_tuple(out: &mut Text<'_>, tuple: &Tuple)
     push_user(out, &tuple.user);
 }
 
-/// The tuple behind the mark of what is done to it.
+/// The tuple after the mark of what is done to it.
 pub(crate) fn push_change(out: &mut Text<'_>, change: &Change)
     ensures { Grown out.old out.new (change_text change.now) }
 {

@@ -40,8 +40,8 @@ pub enum Printed<'a> {
 }
 
 impl Printed<'_> {
-    /// Appends the text, whose tokens are those of the store with this id. It is refused only where the vector had no room for
-    /// all of it, and then nothing is written.
+    /// Appends the text, whose tokens are those of the store with this id. Refused only if the vector has no room for all of
+    /// it; then nothing is written.
     pub fn write_to(&self, store: u64, out: &mut Vec<u8>) -> Result<(), AllocError>
         ensures ok { OnOk result (out.new.items ≡ out.old.items ++ printed_text store self.now) }
         ensures err { OnErr result (out.new.items ≡ out.old.items) }
@@ -79,7 +79,7 @@ fn push_printed(out: &mut Text<'_>, printed: &Printed<'_>, store: u64)
     }
 }
 
-// A line of a word, with the space behind it, and a name.
+// A line of a word, with the space after it, and a name.
 fn push_named(out: &mut Text<'_>, word: &[u8], name: &[u8])
     ensures { Grown out.old out.new (named_line word.now name.now) }
 {
@@ -88,7 +88,7 @@ fn push_named(out: &mut Text<'_>, word: &[u8], name: &[u8])
     out.push(b"\n");
 }
 
-// A line of a word, with the space behind it, and the id of a write.
+// A line of a word, with the space after it, and the id of a write.
 fn push_resolved(out: &mut Text<'_>, word: &[u8], id: WriteId)
     ensures { Grown out.old out.new (resolved_line word.now id) }
 {

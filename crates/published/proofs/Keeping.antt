@@ -20,7 +20,7 @@ module _ {W : Type 0} where
       one zero v e = subst (Fits [] 0 0 0) (some-injective _ _ e) record { seen = ([], refl); told = ([], refl); known = omega arith; told_known = omega arith; first = λ _. (refl, refl, refl) }
       one (suc seat) v e = absurd (some-ne-none v (sym e))
 
-  -- all passes fit where the others do, and the one that changed does
+  -- all passes fit if the others do, and the one that changed does
   fits_set : (list : List W) (h log_seat : ℕ) (views : List (View W)) (seat : ℕ) (w : View W) → ((j : ℕ) (u : View W) → j ≢ seat → get_elem? views j ≡ some u → Fits list h log_seat j u) → Fits list h log_seat seat w
       → (j : ℕ) (u : View W) → get_elem? (set views seat w) j ≡ some u → Fits list h log_seat j u
   fits_set list h log_seat views seat w others mine j u e =

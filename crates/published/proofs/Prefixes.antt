@@ -8,7 +8,7 @@ module _ {A : Type 0} where
   prefix_self [] = ([], refl)
   prefix_self (x ∷ xs) = (let r = prefix_self xs in r.0, ap (λ ys. x ∷ ys) (prefix_self xs).1)
 
-  -- a list begins the one with more behind it
+  -- a list begins the one with more after it
   pub prefix_more : (xs ys : List A) → IsPrefix xs (xs ++ ys)
   prefix_more xs ys = (ys, refl)
 

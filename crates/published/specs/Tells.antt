@@ -10,7 +10,7 @@ module _ {W : Type 0} where
   abbrev pub note : View W → View W
   note v = record { leads = false; seen = v.seen; horizon = v.horizon; told = []; told_horizon = 0 }
 
-  -- the view of a pass that was let go
+  -- the view of a pass that was dropped
   abbrev pub nobody : View W
   nobody = record { leads = false; seen = []; horizon = 0; told = []; told_horizon = 0 }
 

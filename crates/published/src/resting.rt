@@ -1,4 +1,4 @@
-// A session's pass that rests on a word, from which threads may take it in turn.
+// A session's pass that rests on a word, from which threads take it in turn.
 ghost use Rattle.std.specs.Prelude.{◌≡◌, [], max, IfSome};
 ghost use mathlib.Core.List.{IsPrefix};
 
@@ -17,14 +17,14 @@ const TAKEN: u64 = 0;
 
 const RESTS: u64 = 2;
 
-// How often what rests is looked for before the caller gives its processor up. A copy takes some tens of nanoseconds.
+// How often what rests is looked for before the caller yields its processor. A copy takes some tens of nanoseconds.
 const TRIES: u32 = 100;
 
-/// A session's pass, as of what lies under a lock that many may hold at once. Who learns from it takes it for the few instructions in which it is copied, since
-/// only who has a pass can copy it.
+/// A session's pass, as for what lies under a lock that many may hold at once. A thread that learns from it takes it for the few instructions of a copy, since
+/// only the holder of a pass can copy it.
 #[derive(Drop)]
 pub struct RestingPass<W> {
-    // nothing else lies with its word in the memory that a processor takes at a time
+    // nothing else shares its word's cache line
     perch: CachePadded<Perch<(), View<W>>>,
 }
 
@@ -40,7 +40,7 @@ impl<W> Model for RestingPass<W> {
     ghost invariant = { λ p. let perch = padded_value p.perch in (perch.view.leads ≡ false) × (perch.view.told_horizon ≡ 0) };
 }
 
-// What rests there, where nobody has it for long.
+// What rests there, unless somebody has it for long.
 fn try_seat<W>(perch: &Perch<(), View<W>>) -> Option<Seat<(), View<W>>>
     ensures { IfSome result (λ seat. (seat.table_id ≡ perch.now.table_id) × (seat.me ≡ (perch.now.view, []))) }
 {
@@ -61,13 +61,13 @@ fn take_seat<W, R: Wait>(rt: &R, perch: &Perch<(), View<W>>) -> Seat<(), View<W>
         if let Some(seat) = try_seat(perch) {
             return seat;
         }
-        // Who has it waits for a processor.
+        // Its holder waits for a processor.
         thread::yield_now();
     }
     unreachable!()
 }
 
-// It rests again. Only who has it can say so, and so the perch takes it.
+// It rests again. Only its holder can say so, and so the perch takes it.
 fn rest<W>(perch: &Perch<(), View<W>>, seat: Seat<(), View<W>>)
     requires { (seat.table_id ≡ perch.now.table_id) × (seat.me ≡ (perch.now.view, [])) }
 {
@@ -75,7 +75,7 @@ fn rest<W>(perch: &Perch<(), View<W>>, seat: Seat<(), View<W>>)
 }
 
 impl<W> RestingPass<W> {
-    /// Of a session's pass.
+    /// From a session's pass.
     pub fn new(pass: SessionPass<W>) -> RestingPass<W>
         ensures { result ≡ pass }
     {
@@ -87,7 +87,7 @@ impl<W> RestingPass<W> {
         }
     }
 
-    /// The session's pass. A new one has to take the place of this, which has none then: who asks it waits forever.
+    /// The session's pass. A new one has to replace it, since there is none then: whoever asks waits forever.
     pub fn take<R: Wait>(&mut self, rt: &R) -> SessionPass<W>
         ensures pass { result ≡ self.old }
     {

@@ -11,7 +11,7 @@ use std::sync::Wait;
 // How many copies there are: twice as many as small machines have processors, so that two callers that run at once mostly learn from two.
 const LANES: usize = 8;
 
-/// A session's pass, as of what lies under a lock that many may hold at once to read. Each of them learns what it has seen, from one of its copies.
+/// A session's pass, as for what lies under a lock that many may hold at once to read. Each of them learns what it has seen, from one of its copies.
 #[derive(Drop)]
 pub struct SharedPass<W> {
     own: RestingPass<W>,
@@ -39,7 +39,7 @@ fn lane<W>(words: &Published<W>, pass: &mut SessionPass<W>) -> RestingPass<W>
 }
 
 impl<W> SharedPass<W> {
-    /// Of a session's pass.
+    /// From a session's pass.
     pub fn new(words: &Published<W>, pass: SessionPass<W>) -> SharedPass<W>
         requires { pass.table ≡ words.now }
         ensures { result ≡ pass }

@@ -217,7 +217,7 @@ fn three_look<R: Threads + Sync>(
     (two_rise && third_rises, one)
 }
 
-// One thread adds, and three look. Whom the writer tells has then seen every write.
+// One thread adds, and three look. Whoever the writer tells has then seen every write.
 fn four_threads<R: Threads + Sync>(
     rt: &R,
     words: &Published<u64>,

@@ -14,7 +14,7 @@ const SAFE_PLACE: usize = 0;
 
 const HORIZON: usize = 1;
 
-/// The safe place and the horizon. A pass belongs to the words that it came from, and contracts see which these are.
+/// The safe place and the horizon. A pass belongs to the words that it came from, and contracts see which.
 #[derive(Drop)]
 pub struct Published<W> {
     table: Table<(), View<W>, (), OneList, Global>,
@@ -40,7 +40,7 @@ impl<W> Published<W> {
         Ok((Published { table }, LogPass { seat, sessions: 0 }))
     }
 
-    /// The safe place, by one load. The pass has then seen as many writes.
+    /// The safe place, by one load. The pass has then seen that many writes.
     pub fn latest(&self, pass: &mut SessionPass<W>) -> u64
         requires { pass.old.table ≡ self.now }
         ensures same { (pass.new.table ≡ pass.old.table) × (pass.new.horizon ≡ pass.old.horizon) }
@@ -80,7 +80,7 @@ impl<W> Published<W> {
             .fetch_max::<Advances<A>>(&mut log.seat, SAFE_PLACE, place);
     }
 
-    /// Raises the horizon to this place, where it is below.
+    /// Raises the horizon to this place, if it is below.
     pub fn raise(&self, log: &mut LogPass<W>, place: u64)
         requires own { log.old.table ≡ self.now }
         requires place { place ≤ length log.old.seen }

@@ -61,12 +61,12 @@ pub record IsField {A : Type 0} (reader : List ℕ → Option (A × List ℕ)) (
   pub takes : (bytes : List ℕ) (x : A × List ℕ) → IsBytes bytes → reader bytes ≡ Some x → Takes bytes (spelled x.0) x.1 × Fits x.0
   pub again : (x : A) (rest : List ℕ) → Fits x → reader (spelled x ++ rest) ≡ Some (x, rest)
 
--- the same of what is made of such a value
+-- the same for what is made of such a value
 pub record IsCase {A C : Type 0} (reader : List ℕ → Option (C × List ℕ)) (make : A → C) (spelled : A → List ℕ) (Fits : A → Type 0) : Type 0 where
   pub takes : (bytes : List ℕ) (z : C × List ℕ) → IsBytes bytes → reader bytes ≡ Some z → (x : A) × (make x ≡ z.0) × Takes bytes (spelled x) z.1 × Fits x
   pub again : (x : A) (rest : List ℕ) → Fits x → reader (spelled x ++ rest) ≡ Some (make x, rest)
 
--- where each value is made in one way, that is a field
+-- if each value is made in one way, that is a field
 pub field_of : {A C : Type 0} (reader : List ℕ → Option (C × List ℕ)) (make : A → C) (s : A → List ℕ) (F : A → Type 0) (t : C → List ℕ) (G : C → Type 0)
     → IsCase reader make s F → ((x : A) → t (make x) ≡ s x) → ((x : A) → F x → G (make x)) → ((z : C) → G z → (x : A) × (make x ≡ z) × F x) → IsField reader t G
 field_of reader make s F t G c spelled fits parts = record {
@@ -152,7 +152,7 @@ four_case a s F b t G d u H f v I test make first second third fourth = record {
       ap (four a b d f test make) {x = (s x.0 ++ (t x.1 ++ (u x.2 ++ v x.3))) ++ rest} (append_assoc (s x.0) (t x.1 ++ (u x.2 ++ v x.3)) rest) ∙ rw (first.again x.0 ((t x.1 ++ (u x.2 ++ v x.3)) ++ rest) fit.0.0) (q.again (x.1, x.2, x.3) rest ((fit.0.1, fit.0.2, fit.0.3), fit.1));
 }
 
--- ---- a field behind its kind
+-- ---- a field after its kind
 
 abbrev pub tagged : {C : Type 0} → (ℕ → List ℕ → Option (C × List ℕ)) → List ℕ → Option (C × List ℕ)
 tagged of_kind bytes = byte_at bytes >>= λ k. of_kind k.0 k.1

@@ -1,4 +1,4 @@
--- Whether a checkpoint is under way, behind one record more.
+-- Whether a checkpoint is under way, after one more record.
 use Rattle.std.proofs.Common.{◌≡◌, ℕ, List, [], ◌∷◌, ◌++◌, Option, None, refl}
 use Rattle.records.specs.declared.mark.Inside.{Inside}
 use Rattle.records.specs.declared.record.Record.{Record}
@@ -13,7 +13,7 @@ pub inside_push : (rs : List Record) (r : Record) → inside_of (rs ++ r ∷ [])
 unfolding inside_of
 inside_push rs r = inside_from-append None rs (r ∷ [])
 
--- what holds of a record that is no mark of a checkpoint
+-- what holds of a record that is not a mark of a checkpoint
 abbrev pub UnlessMark : Record → Type 0 → Type 0
 UnlessMark (Prepare w) T = T
 UnlessMark (Learned to placed_ids) T = T

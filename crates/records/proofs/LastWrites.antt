@@ -23,7 +23,7 @@ pub there_last : (t : Tuple) (log : List Entry) → is_at log (length log) t ≡
 unfolding is_at
 there_last t log = ap (λ (l : List Entry). there_after t false (flat_map (λ (w : Entry). w.changes) l)) (take_all (length log) log (omega arith))
 
--- what changes that name a tuple leave does not hang on what was there before
+-- what changes that name a tuple leave does not depend on what was there before
 pub there_changed : (t : Tuple) (a b : Bool) (changes : List Change) → has_tuple t (changed changes) ≡ true → there_after t a changes ≡ there_after t b changes
 there_changed t a b [] has = absurd cc
 there_changed t a b (Touch u ∷ changes) has = ⊎_elim
@@ -61,7 +61,7 @@ last_from-append found place t (w ∷ xs) ys =
     last_from-append at (place + 1) t xs ys
     ∙ ap (λ n. last_from (last_from at (place + 1) t xs) n t ys) (let e : place + 1 + length xs ≡ place + length (w ∷ xs) = omega arith in e)
 
--- the writes behind others change the tuple, or these others are none of a whole log
+-- the writes after others change the tuple, or these others are none of a whole log
 module _ (base : ℕ) (t : Tuple) (ys : List Entry) where
   pub last_behind : (xs : List Entry) → (base + length xs ≡ 0) ⊎ (list_any (λ (w : Entry). has_tuple t (changed w.changes)) ys ≡ true) → last_from 0 (base + 1) t (xs ++ ys) ≡ last_from 0 (base + length xs + 1) t ys
   last_behind [] enough = ap (λ n. last_from 0 n t ys) (let e : base + 1 ≡ base + 0 + 1 = omega arith in e)

@@ -1,4 +1,4 @@
--- Putting one text after the other.
+-- Putting one text after another.
 use Rattle.std.proofs.Common.{◌≡◌, ◌≤◌, ◌<◌, ◌+◌, ℕ, List, [], ◌++◌, length, take, get_or, Result, Ok, Err, sym, ap, subst, ◌∙◌, append_assoc, arith}
 use Rattle.std.specs.Prelude.{vec_capacity}
 use Rattle.std.specs.Global.{Vec}
@@ -19,7 +19,7 @@ put_more a b c x y (Err e) p q = (
   omega (arith, p.1, q.2),
 )
 
--- memory was refused, for want of room for the text
+-- memory was refused, for lack of room for the text
 abbrev pub Stops : Vec ℕ → Vec ℕ → List ℕ → Type 0
 Stops old new text = ((more : List ℕ) × (new.items ≡ old.items ++ more)) × (vec_capacity old < length old.items + length text) × (vec_capacity old ≤ vec_capacity new)
 

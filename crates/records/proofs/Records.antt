@@ -23,7 +23,7 @@ use Rattle.records.proofs.Meanings.{distinct_of_test, test_of_distinct, rising_o
 use Rattle.records.proofs.Texts.{kind_takes}
 use Rattle.records.proofs.Writes.{InFirst, ArePlacedIds, IsCondition, IsChange, IsSpelledEntry, IsSpelledPlacedId, change_field, entry_field, placed_ids_bytes, placed_ids_field, place_field, write_id_field}
 
--- what has a spelling in version 1, where the flag says so, and else in version 2
+-- what has a spelling in version 1 if the flag says so, else in version 2
 abbrev pub IsSpelled : Bool → Record → Type 0
 IsSpelled first r = IsRecord r × InFirst first (IsOfFirst r)
 

@@ -20,7 +20,7 @@ use Rattle.records.proofs.Fields.{IsBytes, Takes, IsField, IsCase, field_of, som
 use Rattle.records.proofs.Texts.{kind_takes, tuple_field}
 use Rattle.records.proofs.Lists.{few_field}
 
--- what holds in version 1, where the flag says so
+-- what holds in version 1, if the flag says so
 abbrev pub InFirst : Bool → Type 0 → Type 0
 InFirst true P = P
 InFirst false P = Unit {0}

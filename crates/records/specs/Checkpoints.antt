@@ -1,4 +1,4 @@
--- Checkpoints: of which generation the records of a bank are, whether they are whole, and what a coordinator's checkpoint holds.
+-- Checkpoints: the generation of a bank's records, whether they are whole, and what a coordinator's checkpoint holds.
 use Rattle.std.specs.Prelude.{◌+◌, ◌-◌, ◌==◌, ℕ, Bool, true, false, List, [], ◌∷◌, ◌++◌, Option, Some, None, drop}
 use Rattle.std.specs.List.{list_any}
 use Rattle.tuples.specs.declared.change.Change.{Change}
@@ -26,7 +26,7 @@ abbrev pub generation_begun : Option Inside → ℕ
 generation_begun None = 0
 generation_begun (Some i) = i.generation
 
--- of which generation the records are: that of the checkpoint with which they begin, else 0
+-- the generation of the records: that of the checkpoint with which they begin, else 0
 unfoldable pub generation_of : List Record → ℕ
 generation_of [] = 0
 generation_of (r ∷ rs) = generation_begun (begun_by r)

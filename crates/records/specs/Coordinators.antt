@@ -17,14 +17,14 @@ use Rattle.records.specs.declared.mark.Mark.{Mark}
 use Rattle.records.specs.declared.mark.Mark.TheVariants.{Begins, Row, Ends}
 use Rattle.records.specs.declared.mark.Stage.TheVariants.{Bounded}
 
--- what a coordinator knows: the decisions behind a place, its base, in the order of their places; the horizon; and how often it was opened
+-- what a coordinator knows: the decisions after a place, its base, in the order of their places; the horizon; and how often it was opened
 pub record CoordinatorState : Type 0 where
   pub base : ℕ
   pub log : List Entry
   pub horizon : ℕ
   pub epoch : ℕ
 
--- the base behind a mark of a checkpoint: one that ended holds the decisions above its horizon
+-- the base after a mark of a checkpoint: one that ended holds the decisions above its horizon
 abbrev pub marked_base : Mark → CoordinatorState → ℕ
 marked_base (Begins generation) s = s.base
 marked_base (Row place change) s = s.base
@@ -51,7 +51,7 @@ empty_coordinator = record { base = 0; log = []; horizon = 0; epoch = 0 }
 unfoldable pub coordinator_state : List Record → CoordinatorState
 coordinator_state rs = coordinator_from empty_coordinator rs
 
--- the number of decisions of the whole log, those at or below the base among them
+-- the number of decisions of the whole log, including those at or below the base
 abbrev pub end_of : CoordinatorState → ℕ
 end_of s = s.base + length s.log
 
@@ -67,13 +67,13 @@ IsNotAbove id s = (j : ℕ) (w : Entry) → slice_get s.log j ≡ Some w → s.h
 abbrev pub is_changed : CoordinatorState → Tuple → Bool
 is_changed s t = list_any (λ (w : Entry). has_tuple t (changed w.changes)) s.log
 
--- the condition holds after its decisions, so far as those that it knows decide it: of a tuple that none of them changes they tell nothing, save
--- where they are the whole log
+-- the condition holds after its decisions, as far as those that it knows decide it: they say nothing of a tuple that none of them changes,
+-- unless they are the whole log
 abbrev pub HoldsKnown : CoordinatorState → Condition → Type 0
 HoldsKnown s c = (s.base ≡ 0) ⊎ (is_changed s c.tuple ≡ true)
     → meets_want c.want (last_from 0 (s.base + 1) c.tuple s.log) (is_at s.log (length s.log) c.tuple) ≡ true
 
--- a write may be decided at a place: the next one, under an id that no decision has, where its conditions hold and ask about places of a log
+-- a write may be decided at a place: the next one, under an id that no decision has, with conditions that hold and ask about places of a log
 pub record MayDecide (s : CoordinatorState) (place : ℕ) (w : Entry) : Type 0 where
   pub opened : 1 ≤ s.epoch
   pub next : place ≡ end_of s + 1
@@ -101,7 +101,7 @@ pub record MayRaise (s : CoordinatorState) (place : ℕ) : Type 0 where
   pub on : s.horizon ≤ place
   pub within : place ≤ end_of s
 
--- the record may come next at this coordinator, where no checkpoint is under way
+-- the record may come next at this coordinator, if no checkpoint is under way
 abbrev pub MayComeNext : Identity → CoordinatorState → Record → Type 0
 MayComeNext me s (Prepare w) = ⊥
 MayComeNext me s (Learned to placed_ids) = ⊥
@@ -117,7 +117,7 @@ pub record MayTakeOpening (me : Identity) (i : Inside) (epoch store shards node 
   pub may : MayTakeEpoch me i epoch store shards node
   pub coordinator : me.node ≡ coordinator_number
 
--- decisions stand behind the horizon
+-- decisions stand after the horizon
 pub record MayTakeDecision (i : Inside) (s : CoordinatorState) (place : ℕ) (w : Entry) : Type 0 where
   pub after : i.stage ≡ Bounded
   pub may : MayDecide (record s { base = s.horizon }) place w
@@ -150,7 +150,7 @@ MayFollowNext me (Some i) s r = MayComeNextInside me i s r
 abbrev pub BeginsCoordinatorImage : Identity → List Record → Type 0
 BeginsCoordinatorImage me rs = (before after : List Record) (r : Record) → rs ≡ before ++ r ∷ after → MayFollowNext me (inside_of before) (coordinator_state before) r
 
--- the records of this coordinator: those of a checkpoint, where they begin with one, up to its end, and then each that may come after
+-- the records of this coordinator: those of a checkpoint, if they begin with one, up to its end, and then each that may come after
 -- those before it
 pub record IsCoordinatorImage (me : Identity) (rs : List Record) : Type 0 where
   pub each : BeginsCoordinatorImage me rs

@@ -51,7 +51,7 @@ abbrev pub change_bytes : Change → List ℕ
 change_bytes (Touch t) = 1 ∷ tuple_bytes t
 change_bytes (Delete t) = 2 ∷ tuple_bytes t
 
--- what is wanted, in version 1 (where the flag says so) a place alone
+-- what is wanted, in version 1 (if the flag says so) a place alone
 abbrev pub want_bytes : Bool → Want → List ℕ
 want_bytes true (NotAfter place) = to_be_bytes w64 place
 want_bytes true Exists = []
@@ -181,7 +181,7 @@ IsOfFirst (Epoch epoch store shards node) = Unit {0}
 IsOfFirst (Horizon place) = Unit {0}
 IsOfFirst (Checkpoint mark) = Unit {0}
 
--- the bytes are a batch of these records, in version 2 or, where that has them, in version 1
+-- the bytes are a batch of these records, in version 2 or, if version 1 can spell them, in that
 pub record IsBatch (bytes : List ℕ) (rs : List Record) : Type 0 where
   pub some : 1 ≤ length rs
   pub few : length rs ≤ max_records

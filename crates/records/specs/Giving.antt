@@ -1,11 +1,11 @@
--- What a reader gives, against what the bytes are read as.
+-- What a reader returns, against what the bytes are read as.
 use Rattle.std.specs.Prelude.{◌≡◌, Option, Some, None, Result, Ok, Err}
 use Rattle.refusal.specs.declared.refusal.Refusal.{Refusal}
 use Rattle.refusal.specs.declared.refusal.Refusal.TheVariants as refusals
 use Rattle.records.specs.declared.unread.Unread.{Unread}
 use Rattle.records.specs.declared.unread.Unread.TheVariants.{Damaged, NoMemory}
 
--- damaged bytes are read as nothing; that memory was refused says nothing of them
+-- damaged bytes are read as nothing; refused memory says nothing of them
 abbrev pub Fails : {Y : Type 0} → Unread → Option Y → Type 0
 Fails Damaged read = read ≡ None
 Fails NoMemory read = Unit {0}

@@ -16,7 +16,7 @@ inside_behind i (Learned to placed_ids) = Some (record i { stage = Listed })
 inside_behind i (Prepare w) = Some (record i { stage = Doubted })
 inside_behind i _ = Some i
 
--- one more record where no checkpoint has begun, or it has ended
+-- one more record if no checkpoint has begun, or it has ended
 abbrev pub begun_by : Record → Option Inside
 begun_by (Checkpoint (Begins generation)) = Some (record { generation = generation; stage = Begun })
 begun_by _ = None

@@ -139,7 +139,7 @@ want_of_kind_at (suc (suc zero)) bytes = Some (Exists, bytes)
 want_of_kind_at (suc (suc (suc zero))) bytes = Some (Absent, bytes)
 want_of_kind_at (suc (suc (suc (suc k)))) bytes = None
 
--- in version 1 (where the flag says so) a place alone
+-- in version 1 (if the flag says so) a place alone
 unfoldable pub want_at : Bool → List ℕ → Option (Want × List ℕ)
 want_at true bytes = not_after_at bytes
 want_at false bytes = do
@@ -152,7 +152,7 @@ condition_at first bytes = do
   want ← want_at first tuple.1
   Some (record { tuple = tuple.0; want = want.0 }, want.1)
 
--- so many, one after the other
+-- this many, one after another
 unfoldable pub list_at : {A : Type 0} → (List ℕ → Option (A × List ℕ)) → ℕ → List ℕ → Option (List A × List ℕ)
 list_at item_at zero bytes = Some ([], bytes)
 list_at item_at (suc n) bytes = do
@@ -160,7 +160,7 @@ list_at item_at (suc n) bytes = do
   others ← list_at item_at n item.1
   Some (item.0 ∷ others.0, others.1)
 
--- how many there are, at most so many, and those
+-- how many there are, at most this many, and those
 abbrev pub few_at : {A : Type 0} → (List ℕ → Option (ℕ × List ℕ)) → (List ℕ → Option (A × List ℕ)) → ℕ → List ℕ → Option (List A × List ℕ)
 few_at count_at item_at most bytes = do
   count ← count_at bytes
@@ -290,7 +290,7 @@ record_at first bytes = do
 
 -- ---- batches
 
--- whether it is the first version, where it is one
+-- whether it is the first version, if it is one
 unfoldable pub version_of : ℕ → Option Bool
 version_of zero = None
 version_of (suc zero) = Some true
@@ -304,7 +304,7 @@ records_at first bytes = do
   records ← list_at (record_at first) count.0 count.1
   if_passes (nat_le 1 count.0 && (length records.1 == 0)) records.0
 
--- the records that the bytes spell, none where they spell none
+-- the records that the bytes spell, none if they spell none
 unfoldable pub batch : List ℕ → Option (List Record)
 batch bytes = do
   version ← byte_at bytes

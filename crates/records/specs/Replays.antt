@@ -39,7 +39,7 @@ pub record ShardState : Type 0 where
 abbrev pub id_cmp : WriteId → WriteId → Ordering
 id_cmp a b = ordering_then (nat_cmp a.epoch b.epoch) (nat_cmp a.number b.number)
 
--- a write in its place among writes that ascend by id; one that has its id goes out
+-- a write put in its place among writes that ascend by id, instead of one that has its id
 abbrev pub put : Entry → List Entry → List Entry
 put w [] = w ∷ []
 put w (v ∷ ws) = match_ordering (id_cmp w.id v.id) (w ∷ v ∷ ws) (w ∷ ws) (v ∷ put w ws)
@@ -105,7 +105,7 @@ is_held t (w ∷ ws) = if has_tuple t (named w) then true else is_held t ws
 abbrev pub greatest_number : ℕ
 greatest_number = max_number
 
--- what is asked about a place is asked about one that a log can have
+-- a place that is asked about is one that a log can have
 abbrev pub AsksOfLog : Want → Type 0
 AsksOfLog (NotAfter place) = place ≤ greatest_number
 AsksOfLog Exists = Unit {0}
@@ -126,12 +126,12 @@ pub record MayPrepare (me : Identity) (s : ShardState) (w : Entry) : Type 0 wher
   pub number : w.id.number ≤ greatest_number
   pub places : AskOfLog w.conditions
 
--- each part names a write in doubt, another each time
+-- the parts name writes in doubt, each a different one
 abbrev pub ArePrepared : List PlacedId → List Entry → Type 0
 ArePrepared [] ws = Unit {0}
 ArePrepared (p ∷ placed_ids) ws = ((w : Entry) × (find_in_doubt p.id ws ≡ Some w)) × ArePrepared placed_ids (without p.id ws)
 
--- decisions up to a place may be applied: that place is no lower than before, and the parts lie above the place before, at rising places up to it
+-- decisions up to a place may be applied: it is no lower than the one before, and the parts lie above that, at rising places up to the new one
 pub record MayLearn (s : ShardState) (to : ℕ) (placed_ids : List PlacedId) : Type 0 where
   pub opened : 1 ≤ s.epoch
   pub on : s.learned ≤ to
@@ -157,7 +157,7 @@ pub record MayCollect (s : ShardState) (place : ℕ) : Type 0 where
   pub on : s.horizon ≤ place
   pub within : place ≤ s.learned
 
--- the record may come next at this shard, where no checkpoint is under way
+-- the record may come next at this shard, if no checkpoint is under way
 abbrev pub MayCome : Identity → ShardState → Record → Type 0
 MayCome me s (Prepare w) = MayPrepare me s w
 MayCome me s (Learned to placed_ids) = MayLearn s to placed_ids
@@ -178,7 +178,7 @@ pub record MayTakeEpoch (me : Identity) (i : Inside) (epoch store shards node : 
   pub same_shards : shards ≡ me.shards
   pub same_node : node ≡ me.node
 
--- that it is within what is learned is tested where the checkpoint ends
+-- whether it is within what is learned is tested when the checkpoint ends
 pub record MayTakeHorizon (i : Inside) (before place : ℕ) : Type 0 where
   pub after : i.stage ≡ Opened
   pub on : before ≤ place
@@ -230,7 +230,7 @@ MayFollow me (Some i) s r = MayComeInside me i s r
 abbrev pub BeginsShardImage : Identity → List Record → Type 0
 BeginsShardImage me rs = (before after : List Record) (r : Record) → rs ≡ before ++ r ∷ after → MayFollow me (inside_of before) (shard_state before) r
 
--- the records of this shard: those of a checkpoint, where they begin with one, up to its end, and then each that may come after those
+-- the records of this shard: those of a checkpoint, if they begin with one, up to its end, and then each that may come after those
 -- before it. The first of the others is its first opening, since nothing else may come before one.
 pub record IsShardImage (me : Identity) (rs : List Record) : Type 0 where
   pub each : BeginsShardImage me rs

@@ -6,7 +6,7 @@ ghost use Rattle.records.specs.Replays.{MayTakeEpoch, MayTakeHorizon};
 use crate::{Identity, Inside, Stage};
 use tuples::MAX_NUMBER;
 
-/// Whether a checkpoint of this generation may begin the records of a node that was opened so often before.
+/// Whether a checkpoint of this generation may begin the records of a node that was opened this often before.
 pub fn may_begin(epoch: u64, generation: u64) -> bool
     ensures { IsTrue result ↔ IsFirst epoch generation }
 {
@@ -14,7 +14,7 @@ pub fn may_begin(epoch: u64, generation: u64) -> bool
 }
 
 impl Inside {
-    /// Behind its begin.
+    /// After its begin.
     pub fn begun(generation: u64) -> Inside
         ensures { result ≡ record { generation = generation; stage = Stage.Begun } }
     {
@@ -24,7 +24,7 @@ impl Inside {
         }
     }
 
-    /// The same checkpoint, of which this part stands last.
+    /// The same checkpoint, with this part last.
     pub fn behind(self, stage: Stage) -> Inside
         ensures { result ≡ record self { stage = stage } }
     {

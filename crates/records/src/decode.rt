@@ -189,9 +189,9 @@ fn batch_of(alloc: Global, bytes: &[u8]) -> Result<Vec<Record>, Unread>
     }
 }
 
-/// The records of a batch, in their order; `Damaged` where the bytes are no batch, `NoMemory`.
+/// The records of a batch, in their order; `Damaged` if the bytes are not a batch, `NoMemory`.
 pub fn decode_batch(alloc: Global, bytes: &[u8]) -> Result<Vec<Record>, Refusal>
-    // What is read is spelled so.
+    // The bytes spell what is read.
     ensures found { IfOk result (λ rs. IsBatch bytes.now rs.items) }
     // Nothing that is spelled is refused.
     ensures only { IsErrOf result Refusal.Damaged → (rs : List AnyRecord) → IsBatch bytes.now rs → ⊥ }

@@ -20,8 +20,8 @@ use std::alloc::AllocError;
 use tuples::{Entry, Tuple};
 
 impl Record {
-    /// Appends the bytes of the record, in the version that is written. It takes no memory where the vector has room for them, and
-    /// where it has none and memory is refused, nothing is written.
+    /// Appends the bytes of the record, in the version that is written. It allocates nothing if the vector has room for them; if
+    /// it has none and memory is refused, nothing is written.
     pub fn encode(&self, out: &mut Vec<u8>) -> Result<(), AllocError>
         requires { IsRecord self.now }
         ensures ok { OnOk result (out.new.items ≡ out.old.items ++ record_bytes false self.now) }
@@ -31,14 +31,14 @@ impl Record {
         let len = out.len();
         let put = put_record(out, self);
         if put.is_err() {
-            // A part of the record may stand there.
+            // Part of the record may stand there.
             out.truncate(len);
         }
         put
     }
 }
 
-/// Appends the bytes of the record that prepares a part, which is not copied for it. Memory is as in `Record::encode`.
+/// Appends the bytes of the record that prepares a part, without a copy of the part. Memory is as in `Record::encode`.
 pub fn encode_prepare(part: &Entry, out: &mut Vec<u8>) -> Result<(), AllocError>
     requires { IsPrepared part.now }
     ensures ok { OnOk result (out.new.items ≡ out.old.items ++ record_bytes false (prepare_record part.now)) }
@@ -54,8 +54,8 @@ pub fn encode_prepare(part: &Entry, out: &mut Vec<u8>) -> Result<(), AllocError>
     done
 }
 
-/// Appends the bytes of the record that marks a version at a place: a touch of the tuple, or else a delete. The tuple is not copied for
-/// it. Memory is as in `Record::encode`.
+/// Appends the bytes of the record that marks a version at a place: a touch of the tuple, or else a delete. The tuple is not copied.
+/// Memory is as in `Record::encode`.
 pub fn encode_row(
     place: u64,
     tuple: &Tuple,
@@ -75,7 +75,7 @@ pub fn encode_row(
     done
 }
 
-/// Appends the bytes of the record that decides a write at a place, which is not copied for it. Memory is as in `Record::encode`.
+/// Appends the bytes of the record that decides a write at a place. The write is not copied. Memory is as in `Record::encode`.
 pub fn encode_decision(place: u64, write: &Entry, out: &mut Vec<u8>) -> Result<(), AllocError>
     requires few_changes { length write.now.changes ≤ max_changes }
     requires few_conditions { length write.now.conditions ≤ max_conditions }

@@ -29,7 +29,7 @@ impl Model for Identity {
 }
 
 impl Identity {
-    /// Shard `node` of a store of so many shards.
+    /// Shard `node` of a store of this many shards.
     pub fn shard(store: u64, shards: Shards, node: u8) -> Identity
         requires { node < shards }
         ensures { result ≡ record { store = store; shards = shards; node = node } }
@@ -41,7 +41,7 @@ impl Identity {
         }
     }
 
-    /// The coordinator of a store of so many shards.
+    /// The coordinator of a store of this many shards.
     pub fn coordinator(store: u64, shards: Shards) -> Identity
         ensures { result ≡ record { store = store; shards = shards; node = coordinator_number } }
     {

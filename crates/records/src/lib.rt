@@ -1,6 +1,6 @@
 //! The records of a node's journal, batches of them as bytes, and what lists of records stand for.
 //!
-//! Keeps: one spelling a record within a version, and none begins another.
+//! Keeps: one spelling per record within a version, and none begins another.
 //! Never: reads a device, or carries out what a record says: `replay` does that for a shard.
 //! Callers rely on: what is decoded is exactly what the bytes spell, and bytes that spell no batch are refused.
 //!

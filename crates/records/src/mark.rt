@@ -1,7 +1,7 @@
-// The marks of a checkpoint, and how far one has come that is being read.
+// The marks of a checkpoint, and how much of one has been read.
 use tuples::Change;
 
-/// A mark of a checkpoint: one list of records that stands for what a node's journal stood for, and takes its place.
+/// A mark of a checkpoint: one list of records that stands for what a node's journal stood for, and replaces it.
 #[derive(Drop)]
 pub enum Mark {
     /// A checkpoint of this generation begins, from 1 on.
@@ -12,7 +12,7 @@ pub enum Mark {
     Ends(u64),
 }
 
-/// What stands last in a checkpoint that has not ended. The parts come in this order.
+/// The last part so far of a checkpoint that has not ended. The parts come in this order.
 #[derive(Clone, Copy, Debug, PartialEq, Eq)]
 pub enum Stage {
     /// Its begin.

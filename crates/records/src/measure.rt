@@ -1,4 +1,4 @@
-// How long the record of a shard's part would be, which takes no memory.
+// How long the record of a shard's part would be, found without allocating.
 ghost use Rattle.std.specs.Prelude.{ℕ, ◌≡◌, ◌≤◌, ◌*◌, false, length};
 ghost use Rattle.std.specs.List.{flat_map};
 ghost use Rattle.records.specs.Format.{change_bytes, condition_bytes, object_bytes, record_bytes, text_bytes, tuple_bytes, user_bytes, want_bytes};
@@ -128,7 +128,7 @@ fn all_conditions_len(conditions: &[Condition]) -> usize
     len
 }
 
-/// The number of bytes of the record that decides a write, at whatever place.
+/// The number of bytes of the record that decides a write, at any place.
 #[tactic(auto, unfolding(crate::specs::Format::record_bytes))]
 pub fn decision_len(write: &Entry) -> usize
     requires few_changes { length write.now.changes ≤ max_changes }

@@ -7,7 +7,7 @@ use crate::PlacedId;
 use crate::distinct::are_rising_to;
 use tuples::{Condition, MAX_NUMBER, Want};
 
-/// Whether each place that the conditions ask about is one that a log can have, 0 among them.
+/// Whether each place that the conditions ask about is one that a log can have, including 0.
 pub fn ask_of_log(conditions: &[Condition]) -> bool
     ensures { IsTrue result ↔ AskOfLog conditions.now }
 {

@@ -10,7 +10,7 @@ pub struct PlacedId {
     pub place: u64,
 }
 
-/// Placed ids in their order, which contracts see as their list.
+/// Placed ids in their order; contracts see them as their list.
 #[derive(Drop)]
 pub struct PlacedIds {
     items: Vec<PlacedId>,
@@ -28,7 +28,7 @@ impl Model for PlacedIds {
 impl PlacedIds {
     ghost use Rattle.std.specs.Prelude.{◌≡◌};
 
-    /// These placed ids, which takes no memory.
+    /// These placed ids; allocates nothing.
     pub fn from_vec(items: Vec<PlacedId>) -> Self
         ensures { result ≡ items.items }
     {

@@ -10,14 +10,14 @@ use tuples::Refusal;
 pub(crate) enum Unread {
     /// No such value is spelled at the front of the bytes.
     Damaged,
-    /// Memory was refused, which says nothing of the bytes.
+    /// Memory was refused, which says nothing about the bytes.
     NoMemory,
 }
 
 impl Unread {
     ghost use Rattle.records.specs.Giving.{refusal_of};
 
-    /// What a caller of the crate is told.
+    /// What a caller of the crate gets.
     pub(crate) fn refusal(self) -> Refusal
         ensures { result ≡ refusal_of self }
     {

@@ -18,11 +18,11 @@ use Rattle.records.specs.Replays.{AskOfLog, greatest_number}
 use Rattle.records.proofs.CoordinatorStates.{coordinator_push}
 use Rattle.records.proofs.Insides.{inside_push}
 
--- decisions behind a base, and nothing else
+-- decisions after a base, and nothing else
 abbrev pub knowing : ℕ → List Entry → CoordinatorState
 knowing base log = record { base = base; log = log; horizon = 0; epoch = 0 }
 
--- a write was decided behind these decisions, which stand behind a base
+-- a write was decided after these decisions, which stand after a base
 pub record IsDecided (base : ℕ) (before : List Entry) (w : Entry) : Type 0 where
   pub place : base + length before + 1 ≤ greatest_number
   pub new : (j : ℕ) (v : Entry) → slice_get before j ≡ Some v → v.id ≢ w.id
@@ -36,7 +36,7 @@ pub record IsDecided (base : ℕ) (before : List Entry) (w : Entry) : Type 0 whe
 abbrev pub AreDecided : ℕ → List Entry → Type 0
 AreDecided base log = (before after : List Entry) (w : Entry) → log ≡ before ++ w ∷ after → IsDecided base before w
 
--- the place behind which the decisions stand that were read so far
+-- the place after which the decisions stand that were read so far
 abbrev pub base_of : Option Inside → CoordinatorState → ℕ
 base_of None s = s.base
 base_of (Some i) s = s.horizon
@@ -63,7 +63,7 @@ pub record IsKnown (me : Identity) (i : Option Inside) (s : CoordinatorState) : 
   pub node : 1 ≤ s.epoch → me.node ≡ coordinator_number
   pub come : HasCome i s
 
--- ---- one decision more
+-- ---- one more decision
 
 none_decided : (base : ℕ) (log : List Entry) → log ≡ [] → AreDecided base log
 none_decided base log empty before after w is = absurd (no_element before after w (sym empty ∙ is))
@@ -90,7 +90,7 @@ longer : (log : List Entry) (w : Entry) → length (log ++ w ∷ []) ≡ length 
 longer [] w = refl
 longer (v ∷ log) w = let e = longer log w in omega (arith, e)
 
--- ---- one record more
+-- ---- one more record
 
 known_outside : (me : Identity) (s : CoordinatorState) (r : Record) → IsKnown me None s → MayComeNext me s r → IsKnown me (inside_step None r) (coordinator_step s r)
 unfolding coordinator_step

@@ -27,13 +27,13 @@ use Rattle.recovery.specs.Latest.{AreLatestFrom, holds_after, last_change, last_
 abbrev pub changed_by : ℕ → Change → LastChange
 changed_by place c = record { place = place; is_there = is_touch c }
 
--- one change more
+-- one more change
 pub last_change_more : (place : ℕ) (t : Tuple) (c : Change) (changes : List Change) (o : Option LastChange)
     → last_change place (changes ++ c ∷ []) t o ≡ (if tuple_eq t (tuple_of c) then Some (changed_by place c) else last_change place changes t o)
 last_change_more place t c [] o = refl
 last_change_more place t c (d ∷ changes) o = last_change_more place t c changes (if tuple_eq t (tuple_of d) then Some (changed_by place d) else o)
 
--- one write more
+-- one more write
 pub latest_more : (place : ℕ) (t : Tuple) (w : Entry) (log : List Entry) (o : Option LastChange)
     → latest_from place (log ++ w ∷ []) t o ≡ last_change (place + length log) w.changes t (latest_from place log t o)
 latest_more place t w [] o = ap (λ (n : ℕ). last_change n w.changes t o) (let e : place ≡ place + 0 = omega arith in e)
@@ -135,7 +135,7 @@ look_up t (e ∷ entries) = ap (λ (b : Bool). if b then Some e.1 else lookup (i
 pub same_index : (m : BTreeMap Tuple LastChange) (t : Tuple) → get ghosts.cmp m t ≡ get tuple_cmp m t
 same_index m t = look_up t m.entries
 
--- an entry more, where the map is asked in the order of tuples
+-- one more entry, if the map is asked in the order of tuples
 pub index_more : (old new : BTreeMap Tuple LastChange) (k t : Tuple) (x : LastChange) → get ghosts.cmp new t ≡ (if is_eq (ghosts.cmp k t) then Some x else get ghosts.cmp old t)
     → get tuple_cmp new t ≡ (if tuple_eq t k then Some x else get tuple_cmp old t)
 unfolding tuple_eq

@@ -22,7 +22,7 @@ abbrev pub latest_from : ℕ → List Entry → Tuple → Option LastChange → 
 latest_from place [] t before = before
 latest_from place (w ∷ log) t before = latest_from (place + 1) log t (last_change place w.changes t before)
 
--- its place, 0 where there is none
+-- its place, 0 if there is none
 abbrev pub last_of : Option LastChange → ℕ
 last_of None = 0
 last_of (Some c) = c.place
@@ -36,12 +36,12 @@ there_of (Some c) = c.is_there
 abbrev pub AreLatestFrom : ℕ → (Tuple → Option LastChange) → List Entry → Type 0
 AreLatestFrom place at log = (t : Tuple) → at t ≡ latest_from place log t None
 
--- what is wanted of a tuple, by its last change; where none is known and the changes that are known are not all, nothing is known against it
+-- what is wanted of a tuple, by its last change; if none is known, and the known changes are not all, nothing speaks against it
 abbrev pub holds_after : Bool → Want → Option LastChange → Bool
 holds_after are_all want None = not are_all || meets_want want 0 false
 holds_after are_all want (Some c) = meets_want want c.place c.is_there
 
--- what a recovery keeps: every decision behind the base, the last change of each tuple by them where it keeps an index of these, and numbers within their bounds
+-- what a recovery keeps: every decision after the base, the last change of each tuple by them if it keeps an index of these, and numbers within their bounds
 pub record IsRecovered (ledger : LedgerValue) (at : Option (Tuple → Option LastChange)) (horizon epoch : ℕ) : Type 0 where
   pub settled : ledger.awaited ≡ None
   pub latest : IfSome at (λ f. AreLatestFrom (ledger.base + 1) f ledger.log)

@@ -6,7 +6,7 @@ use Rattle.records.specs.declared.mark.Inside.{Inside}
 use Rattle.records.specs.declared.mark.Stage.TheVariants.{Begun, Bounded}
 use Rattle.records.specs.declared.record.Record.{Record}
 
--- what those so far stand for, and the checkpoint among them that has not ended
+-- what those so far stand for, and the unfinished checkpoint among them
 pub record DecidedSoFar : Type 0 where
   pub inside : Option Inside
   pub state : CoordinatorState
@@ -24,7 +24,7 @@ abbrev pub base_read : Option Inside → ℕ → ℕ
 base_read None base = base
 base_read (Some i) base = 0
 
--- within a checkpoint decisions are kept behind its horizon, and there are none before that is known
+-- within a checkpoint decisions are kept after its horizon, and there are none before that is known
 pub record AreBehindHorizon (i : Inside) (s : CoordinatorState) : Type 0 where
   pub opened : (i.stage ≡ Begun) ⊎ (1 ≤ s.epoch)
   pub base : s.base ≡ s.horizon

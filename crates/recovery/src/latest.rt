@@ -1,4 +1,4 @@
-// The last change of each tuple, by which conditions are tested without a walk over the log for each.
+// The last change of each tuple, so that no condition needs a walk over the log.
 ghost use Rattle.std.specs.Prelude.{◌≡◌, ◌+◌, IfOk, IfSome, MatchOption, None, OnOk, option_map};
 ghost use Rattle.std.specs.BTreeMap.{get};
 ghost use Rattle.std.specs.List.{list_all};
@@ -33,7 +33,7 @@ fn copied(tuple: &Tuple) -> Result<Tuple, AllocError>
     tuple.clone()
 }
 
-// Enters the changes of a write at its place. Where memory is refused, some may have been entered.
+// Enters the changes of a write at its place. If memory is refused, some may have been entered.
 fn enter(
     latest: &mut BTreeMap<Tuple, LastChange>,
     place: u64,
@@ -80,7 +80,7 @@ pub(crate) fn kept_or_made(
     }
 }
 
-/// Enters the changes of a write at its place where an index is kept, and else nothing.
+/// Enters the changes of a write at its place if an index is kept, else does nothing.
 pub(crate) fn enter_where_kept(
     latest: &mut Option<BTreeMap<Tuple, LastChange>>,
     place: u64,
@@ -104,8 +104,8 @@ fn meets(want: Want, place: u64, is_there: bool) -> bool
     }
 }
 
-/// Whether a condition holds after the writes that were entered, so far as they tell: of a tuple that none of them changes they tell it
-/// only where they are all.
+/// Whether a condition holds after the writes that were entered, as far as they tell: for a tuple that none of them changes, only if
+/// they are all.
 pub(crate) fn holds(
     latest: &BTreeMap<Tuple, LastChange>,
     are_all: bool,

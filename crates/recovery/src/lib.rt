@@ -2,7 +2,7 @@
 //!
 //! Keeps: after each record the state that the records so far stand for.
 //! Never: touches a device, or keeps what it needs for its tests alone.
-//! Callers rely on: a record that may not come next is refused, its conditions among the tests; all of n records cost n log n.
+//! Callers rely on: a record that may not come next is refused, by its conditions too; n records cost n log n.
 //!
 //! Start at `records/specs/Coordinators.antt`, what each record does and which may come next.
 #![tactic(auto)]

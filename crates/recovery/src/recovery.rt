@@ -19,7 +19,7 @@ use tuples::{Condition, Entry, Refusal, Tuple, WriteId};
 pub struct Recovery {
     alloc: Global,
     ledger: Ledger,
-    // none until a decision has conditions, since it is for these alone
+    // none until a decision has conditions, which alone need it
     latest: Option<BTreeMap<Tuple, LastChange>>,
     horizon: u64,
     epoch: u64,
@@ -40,7 +40,7 @@ impl Model for Recovery {
 }
 
 impl Recovery {
-    /// Before any record, which takes no memory.
+    /// Before any record, which allocates nothing.
     pub fn new(alloc: Global) -> Recovery
         ensures { result ≡ empty_coordinator }
     {
@@ -115,7 +115,7 @@ impl Recovery {
         Ok(self)
     }
 
-    /// After so many openings.
+    /// After this many openings.
     pub(crate) fn with_epoch(mut self, epoch: u64) -> Recovery
         requires { epoch ≤ greatest_number }
         ensures { result ≡ record self { epoch = epoch } }
@@ -124,7 +124,7 @@ impl Recovery {
         self
     }
 
-    /// Where no decision is known, those behind a horizon are to come.
+    /// No decision is known yet; those after a horizon are to come.
     pub(crate) fn behind(self, alloc: Global, horizon: u64) -> Recovery
         requires none { self.log ≡ [] }
         requires fits { horizon ≤ greatest_number }
@@ -176,7 +176,7 @@ impl Recovery {
         self.ledger.find(id).is_none()
     }
 
-    // The index is made for the first conditions that are tested, and kept from then on.
+    // The index is made for the first conditions that are tested, and then kept.
     pub(crate) fn all_hold(&mut self, conditions: &[Condition]) -> Result<bool, AllocError>
         ensures same { self.new ≡ self.old }
         ensures ok { IfOk result (λ hold. IsTrue hold ↔ All (HoldsKnown self.old) conditions.now) }
@@ -190,7 +190,7 @@ impl Recovery {
         Ok(all)
     }
 
-    /// The decisions above the horizon, which takes no memory.
+    /// The decisions above the horizon; allocates nothing.
     pub fn into_ledger(self) -> Ledger
         ensures value { result ≡ record { base = self.horizon; log = drop (self.horizon - self.base) self.log; awaited = None } }
         ensures behind { self.base ≤ self.horizon }

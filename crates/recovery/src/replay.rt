@@ -15,11 +15,11 @@ use std::alloc::Global;
 use std::marker::Model;
 use tuples::{Entry, Refusal};
 
-/// What the records of a coordinator that were read so far stand for, and the checkpoint among them that has not ended.
+/// What the records of a coordinator that were read so far stand for, and the unfinished checkpoint among them.
 #[derive(Drop)]
 pub struct Replay {
     inside: Option<Inside>,
-    // within a checkpoint its decisions stand behind the horizon
+    // within a checkpoint its decisions stand after the horizon
     recovery: Recovery,
 }
 
@@ -35,7 +35,7 @@ impl Model for Replay {
 }
 
 impl Replay {
-    /// Before the first record, which takes no memory.
+    /// Before the first record; allocates nothing.
     pub fn new(alloc: Global) -> Replay
         ensures { result ≡ nothing_decided }
     {
@@ -45,7 +45,7 @@ impl Replay {
         }
     }
 
-    /// With the record that was found next, of this node: `Damaged` where it may not follow, `NoMemory`.
+    /// With the record that was found next, of this node: `Damaged` if it may not follow, `NoMemory`.
     pub fn take(self, alloc: Global, me: Identity, found: Record) -> Result<Replay, Refusal>
         requires { IsRecord found }
         ensures ok { IfOk result (λ r. MayFollowNext me self.inside self.state found × TakesDecided self found r) }
@@ -59,7 +59,7 @@ impl Replay {
         }
     }
 
-    /// What the records stand for, where no checkpoint is under way; else `Damaged`.
+    /// What the records stand for, if no checkpoint is under way; else `Damaged`.
     pub fn into_recovery(self) -> Result<Recovery, Refusal>
         ensures ok { IfOk result (λ r. (r ≡ self.state) × (self.inside ≡ None)) }
         ensures damaged { IfErr result (λ e. (e ≡ Refusal.Damaged) × (self.inside ≡ None → ⊥)) }
@@ -72,7 +72,7 @@ impl Replay {
     }
 }
 
-// Where no checkpoint is under way.
+// If no checkpoint is under way.
 fn outside(recovery: Recovery) -> Replay
     requires { recovery.epoch ≡ 0 → recovery ≡ empty_coordinator }
     ensures { result ≡ record { inside = None; state = recovery } }
@@ -83,7 +83,7 @@ fn outside(recovery: Recovery) -> Replay
     }
 }
 
-// Where one has begun.
+// If one has begun.
 fn within(inside: Inside, recovery: Recovery) -> Replay
     requires { AreBehindHorizon inside recovery }
     ensures { result ≡ record { inside = Some inside; state = record recovery { base = 0 } } }
@@ -128,7 +128,7 @@ fn begin(recovery: Recovery, mark: Mark) -> Result<Replay, Refusal>
 {
     let begun = match &mark {
         Mark::Begins(generation) => Some(*generation),
-        // Nothing of a checkpoint stands before its begin.
+        // No part of a checkpoint comes before its begin.
         Mark::Row { .. } | Mark::Ends(_) => None,
     };
     drop(mark);
@@ -249,7 +249,7 @@ fn take_mark(inside: Inside, recovery: Recovery, mark: Mark) -> Result<Replay, R
 {
     let ended = match &mark {
         Mark::Ends(generation) => Some(*generation),
-        // One checkpoint stands in no other, and a coordinator has no versions.
+        // Checkpoints do not nest, and a coordinator has no versions.
         Mark::Begins(_) | Mark::Row { .. } => None,
     };
     drop(mark);

@@ -48,7 +48,7 @@ pub(crate) fn may_open(
 ) -> bool
     ensures { IsTrue result ↔ MayOpenAgain me so_far.now epoch store shards node }
 {
-    // The greatest number has none after it.
+    // Nothing follows the greatest number.
     if so_far.epoch() >= MAX_NUMBER || epoch != so_far.epoch() + 1 {
         return false;
     }

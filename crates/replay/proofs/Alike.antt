@@ -71,7 +71,7 @@ may_come_rows me s rows (Checkpoint mark) may = may
 state : List Entry → ℕ → ℕ → List Version → ℕ → ShardState
 state in_doubt learned horizon rows epoch = record { in_doubt = in_doubt; learned = learned; horizon = horizon; rows = rows; epoch = epoch }
 
--- but for the versions they are one state
+-- apart from the versions they are one state
 pub same_but_rows : {a b : ShardState} → IsAlike a b → record a { rows = b.rows } ≡ b
 unfolding state
 same_but_rows {a} {b} h =
@@ -83,7 +83,7 @@ same_but_rows {a} {b} h =
 pub may_come_alike : {a b : ShardState} → IsAlike a b → (me : Identity) (r : Record) → MayCome me a r → MayCome me b r
 may_come_alike {a} {b} h me r may = subst (λ (s : ShardState). MayCome me s r) (same_but_rows h) (may_come_rows me a b.rows r may)
 
--- within a checkpoint a rule looks at the last version of a tuple alone
+-- within a checkpoint a rule looks only at the last version of a tuple
 mark_rows : (me : Identity) (i : Inside) (s : ShardState) (rows : List Version) (mark : Mark) → AreAlike s.rows rows → MayMark me i s mark → MayMark me i (record s { rows = rows }) mark
 mark_rows me i s rows (Begins generation) same may = may
 mark_rows me i s rows (Row place change) same may = record {

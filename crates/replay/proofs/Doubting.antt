@@ -1,4 +1,4 @@
--- Writes in doubt in the order of their ids: one more, fewer, and each put behind the others again.
+-- Writes in doubt in the order of their ids: one more, fewer, and each put after the others again.
 use Rattle.std.proofs.Common.{◌≡◌, inl, inr, suc, Bool, true, false, cond, not, filter, List, [], ◌∷◌, ◌++◌, Some, None, refl, sym, ◌∙◌, ap, subst, arith, length, All, slice_get}
 use Rattle.std.specs.List.{AllByRecursion}
 use Rattle.std.specs.Ordering.{ordering_reverse}
@@ -25,7 +25,7 @@ use Rattle.holds.proofs.Named.{apart_rest}
 abbrev pub IsBefore : Entry → Entry → Type 0
 IsBefore v w = id_cmp v.id w.id ≡ Less
 
--- each stands before all behind it
+-- each stands before all after it
 abbrev pub AreInOrder : List Entry → Type 0
 AreInOrder [] = Unit {0}
 AreInOrder (w ∷ ws) = AllByRecursion (IsBefore w) ws × AreInOrder ws
@@ -90,7 +90,7 @@ pub order_without_all : (placed_ids : List PlacedId) (ws : List Entry) → AreIn
 order_without_all [] ws order = order
 order_without_all (p ∷ placed_ids) ws order = order_without_all placed_ids (without p.id ws) (order_without p.id ws order)
 
--- ---- one that stands behind all others
+-- ---- one after all others
 
 pub all_before : (done : List Entry) (w : Entry) (ws : List Entry) → AreInOrder (done ++ w ∷ ws) → AllByRecursion (λ (v : Entry). IsBefore v w) done
 all_before [] w ws order = tt
@@ -104,7 +104,7 @@ not_itself v w before same =
     let here : id_cmp v.id v.id ≡ Less = subst (λ (i : WriteId). id_cmp v.id i ≡ Less) same before in
     not_both v v here here
 
--- it is put behind them
+-- it is put after them
 pub put_last : (done : List Entry) (w : Entry) → AllByRecursion (λ (v : Entry). IsBefore v w) done → put w done ≡ done ++ w ∷ []
 put_last [] w before = refl
 put_last (v ∷ done) w before = put_cases (λ l. l ≡ v ∷ done ++ w ∷ []) w v done

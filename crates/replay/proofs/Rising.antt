@@ -109,7 +109,7 @@ kept_more me learned to rows more on kept rises each = record {
   each = each_append (IsKept me to) rows more (each_weaker (IsKept me learned) (IsKept me to) (λ v is. record { within = (let a = is.within in omega (arith, on, a)); own = is.own }) rows kept.each) each;
 }
 
--- one version more, no older than those of its tuple
+-- one more version, no older than those of its tuple
 kept_below : (xs : List Version) (t : Tuple) (n : ℕ) → AllByRecursion (λ (v : Version). tuple_eq t (tuple_of v.change) ≡ true) xs → last_version xs t ≤ n → AllByRecursion (λ (v : Version). v.place ≤ n) xs
 unfolding last_version
 kept_below [] t n own below = tt

@@ -27,7 +27,7 @@ pub record StandsForShard (me : Identity) (rs cs : List Record) : Type 0 where
   pub image : IsShardImage me cs
   pub alike : IsAlike (shard_state rs) (shard_state cs)
 
--- A checkpoint of what the records of a shard stand for stands for them, in whatever order the versions of different tuples are listed.
+-- A checkpoint of what a shard's records stand for stands for the same, in whatever order the versions of different tuples are listed.
 abbrev pub ShardCheckpointsStand : Type 0
 ShardCheckpointsStand = (me : Identity) (rs : List Record) (generation : ℕ) (listed : List Version) → IsShardImage me rs → 1 ≤ (shard_state rs).epoch → 1 ≤ generation → generation ≤ max_number
     → AreAlike (shard_state rs).rows listed → StandsForShard me rs (shard_checkpoint me generation (shard_state rs) listed)

@@ -6,7 +6,7 @@ use Rattle.records.specs.declared.mark.Inside.{Inside}
 use Rattle.records.specs.declared.record.Record.{Record}
 use Rattle.replay.specs.Alike.{IsAlike}
 
--- what those so far stand for, and the checkpoint among them that has not ended
+-- what those so far stand for, and the unfinished checkpoint among them
 pub record ReadSoFar : Type 0 where
   pub inside : Option Inside
   pub state : ShardState

@@ -1,4 +1,4 @@
--- The rules of what may come next, as the tests that decide them.
+-- The rules of what may come next, as tests.
 use Rattle.std.specs.Prelude.{Bool, true, false, not, ◌&&◌, ◌==◌, List, [], ◌∷◌, is_some, if◌then◌else◌}
 use Rattle.tuples.specs.declared.tuple.Tuple.{Tuple}
 use Rattle.tuples.specs.declared.entry.Entry.{Entry}
@@ -17,7 +17,7 @@ abbrev pub has_placed_id : WriteId → List PlacedId → Bool
 has_placed_id id [] = false
 has_placed_id id (p ∷ placed_ids) = if same_id p.id id then true else has_placed_id id placed_ids
 
--- each placed id names a write in doubt, another each time
+-- the placed ids name writes in doubt, each a different one
 abbrev pub are_prepared : List PlacedId → List Entry → Bool
 are_prepared [] ws = true
 are_prepared (p ∷ placed_ids) ws = (is_some (find_in_doubt p.id ws) && not (has_placed_id p.id placed_ids)) && are_prepared placed_ids ws

@@ -31,7 +31,7 @@ pub fn may_take_row(
     1 <= place && memory.last(tuple) <= place && is_own(me, tuple)
 }
 
-/// A write in doubt, behind the versions.
+/// A write in doubt, after the versions.
 pub fn may_take_prepare(me: Identity, inside: Inside, memory: &Memory, entry: &Entry) -> bool
     ensures { IsTrue result ↔ MayTakePrepare me inside memory.now entry.now }
 {

@@ -9,7 +9,7 @@ use records::PlacedId;
 use std::alloc::{AllocError, Global};
 use versions::{PlacedChanges, Versions};
 
-/// Adds the changes of these placed ids, each found among the writes in doubt. Where memory is refused, nothing has changed.
+/// Adds the changes of these placed ids, each found among the writes in doubt. If memory is refused, nothing has changed.
 pub fn apply_learned(
     versions: &mut Versions,
     alloc: Global,
@@ -23,7 +23,7 @@ pub fn apply_learned(
     versions.apply_all(&writes)
 }
 
-// The changes of these placed ids, which lie where the writes in doubt do.
+// The changes of these placed ids, borrowed from the writes in doubt.
 fn learned_changes<'a>(
     alloc: Global,
     placed_ids: &[PlacedId],

@@ -1,5 +1,5 @@
 // What a shard knows, as the replay of its records.
-ghost use Rattle.std.specs.Prelude.{◌≡◌, ◌⊎◌, ◌↔◌, ◌++◌, ◌∷◌, [], OnOk, OnErr, IfOk, IfErr, IsErrOf, IsTrue, Some, None, MatchOption};
+ghost use Rattle.std.specs.Prelude.{◌≡◌, ◌⊎◌, ◌↔◌, ◌+◌, ◌++◌, ◌∷◌, [], OnOk, OnErr, IfOk, IfErr, IsErrOf, IsTrue, Some, None, MatchOption};
 ghost use Rattle.std.specs.List.{AllByRecursion};
 ghost use Rattle.holds.specs.Holds.{AreAscendingIds, IsFree, ids};
 ghost use Rattle.records.specs.Format.{IsPrepared};
@@ -9,6 +9,7 @@ ghost use Rattle.tuples.specs.Log.{meets_want};
 ghost use Rattle.tuples.specs.Reads.{IsSelection};
 ghost use Rattle.tuples.specs.Walking.{IsCheckSelection};
 ghost use Rattle.tuples.specs.Versions.{last_version, there_at};
+ghost use Rattle.versions.specs.Budget.{weights};
 ghost use Rattle.versions.specs.Rows.{AreRows};
 ghost use Rattle.versions.specs.Walks.{IsInOrder};
 ghost use Rattle.replay.specs.Alike.{IsAlike};
@@ -24,9 +25,9 @@ use std::slice;
 use tuples::{
     Change, Condition, Entry, Refusal, Tuple, Tupleset, User, Userset, Version, Want, WriteId,
 };
-use versions::{Versions, Walk};
+use versions::{Budget, Versions, Walk};
 
-/// What a shard knows, which contracts see as the state that its records stand for.
+/// What a shard knows; contracts see it as the state that its records stand for.
 #[derive(Drop)]
 pub struct Memory {
     in_doubt: Holds,
@@ -49,7 +50,7 @@ impl Model for Memory {
 }
 
 impl Memory {
-    /// That of a shard that was never opened, which takes no memory.
+    /// The state of a shard that was never opened; allocates nothing.
     pub fn new(alloc: Global) -> Memory
         ensures { result ≡ empty_shard }
     {
@@ -138,14 +139,14 @@ impl Memory {
         Ok(())
     }
 
-    /// Counts one opening more.
+    /// Counts one more opening.
     pub fn open_epoch(&mut self, epoch: u64)
         ensures { self.new ≡ record self.old { epoch = epoch } }
     {
         self.epoch = epoch;
     }
 
-    /// Holds a write in doubt: `Busy` where it is not free, `NoMemory`. After a refusal nothing has changed.
+    /// Holds a write in doubt: `Busy` if it is not free, `NoMemory`. After a refusal nothing has changed.
     #[tactic(auto, unfolding(records::specs::Replays::shard_step))]
     pub fn prepare(&mut self, entry: Entry) -> Result<(), Refusal>
         requires { IsPrepared entry }
@@ -158,7 +159,7 @@ impl Memory {
         Ok(())
     }
 
-    /// Applies decided writes up to a place. Where memory is refused, nothing has changed.
+    /// Applies decided writes up to a place. If memory is refused, nothing has changed.
     #[tactic(auto, unfolding(records::specs::Replays::shard_step))]
     pub fn learn(
         &mut self,
@@ -177,7 +178,7 @@ impl Memory {
         Ok(())
     }
 
-    /// Holds a write no longer, which takes no memory.
+    /// Releases a write; allocates nothing.
     #[tactic(auto, unfolding(records::specs::Replays::shard_step))]
     pub fn drop_write(&mut self, id: WriteId)
         ensures { self.new ≡ shard_step self.old (dropped_record id) }
@@ -185,7 +186,7 @@ impl Memory {
         let _write = self.in_doubt.release(id);
     }
 
-    /// Sets the horizon and forgets the versions under it, which takes no memory.
+    /// Sets the horizon and forgets the versions under it; allocates nothing.
     #[tactic(auto, unfolding(records::specs::Replays::shard_step))]
     pub fn collect(&mut self, place: u64)
         ensures { IsAlike self.new (shard_step self.old (horizon_record place)) }
@@ -194,7 +195,7 @@ impl Memory {
         self.versions.collect(place);
     }
 
-    /// Adds a version, behind those of its tuple.
+    /// Adds a version, after those of its tuple.
     pub(crate) fn add_version(&mut self, place: u64, change: &Change) -> Result<(), AllocError>
         ensures ok { OnOk result (IsAlike self.new (record self.old { rows = self.old.rows ++ record { place = place; change = change.now } ∷ [] })) }
         ensures err { OnErr result (self.new ≡ self.old) }
@@ -262,24 +263,33 @@ impl Memory {
         }
     }
 
-    /// The tuples that are there at a place and meet the tupleset, ascending.
-    pub fn at(&self, alloc: Global, place: u64, set: &Tupleset) -> Result<Vec<Tuple>, AllocError>
-        ensures { IfOk result (λ tuples. IsSelection (there_at self.now.rows place) set.now tuples.items) }
+    /// The tuples that are there at a place and meet the tupleset, ascending. Each is counted: what the budget has no bytes for is refused.
+    pub fn at(
+        &self,
+        alloc: Global,
+        place: u64,
+        set: &Tupleset,
+        budget: &mut Budget,
+    ) -> Result<Vec<Tuple>, AllocError>
+        ensures rows { IfOk result (λ tuples. IsSelection (there_at self.now.rows place) set.now tuples.items) }
+        ensures counted { IfOk result (λ tuples. budget.new + weights tuples.items ≡ budget.old) }
     {
-        self.versions.at(alloc, place, set)
+        self.versions.at(alloc, place, set, budget)
     }
 
-    /// The tuples that are there at a place and that a check asks of a userset, ascending: that of the user, and those of usersets.
+    /// The tuples that are there at a place and that a check of a userset asks for, ascending: the user's, and those of usersets. Each is counted.
     pub fn asked_at(
         &self,
         alloc: Global,
         place: u64,
         userset: &Userset,
         user: &User,
+        budget: &mut Budget,
     ) -> Result<Vec<Tuple>, AllocError>
-        ensures { IfOk result (λ tuples. IsCheckSelection (there_at self.now.rows place) userset.now user.now tuples.items) }
+        ensures rows { IfOk result (λ tuples. IsCheckSelection (there_at self.now.rows place) userset.now user.now tuples.items) }
+        ensures counted { IfOk result (λ tuples. budget.new + weights tuples.items ≡ budget.old) }
     {
-        self.versions.asked_at(alloc, place, userset, user)
+        self.versions.asked_at(alloc, place, userset, user, budget)
     }
 
     /// Copies of the versions, by tuple and then by place.
@@ -289,7 +299,7 @@ impl Memory {
         self.versions.rows(alloc)
     }
 
-    /// All versions, by tuple, each tuple's in the order in which they were applied. Nothing is copied.
+    /// All versions, by tuple, each tuple's in the order in which they were applied; no copies.
     pub fn walk(&self) -> Walk<'_>
         ensures all { result ≡ self.now.rows }
         ensures in_order { IsInOrder self.now.rows }
@@ -297,7 +307,7 @@ impl Memory {
         self.versions.walk()
     }
 
-    /// The writes in doubt, ascending by id. Nothing is copied.
+    /// The writes in doubt, ascending by id; no copies.
     pub fn doubts(&self) -> Values<'_, WriteId, Entry>
         ensures rest { result ≡ self.now.in_doubt }
         ensures prepared { AllByRecursion IsPrepared self.now.in_doubt }

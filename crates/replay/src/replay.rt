@@ -30,7 +30,7 @@ impl Model for Replay {
 }
 
 impl Replay {
-    /// Before the first record, which takes no memory.
+    /// Before the first record; allocates nothing.
     pub fn new(alloc: Global) -> Replay
         ensures { result ≡ nothing_read }
     {
@@ -40,8 +40,8 @@ impl Replay {
         }
     }
 
-    /// Takes the record that was found next, of the shard with this identity. `Damaged` where it may not follow, `NoMemory`; after a refusal
-    /// the replay is of no use.
+    /// Takes the record that was found next, of the shard with this identity. `Damaged` if it may not follow, `NoMemory`; after a refusal
+    /// the replay is useless.
     pub fn take(&mut self, alloc: Global, me: Identity, found: Record) -> Result<(), Refusal>
         requires { IsRecord found }
         ensures ok { OnOk result (MayFollow me self.old.inside self.old.state found × TakesRecord self.old found self.new) }
@@ -54,7 +54,7 @@ impl Replay {
         }
     }
 
-    /// The memory of the shard, where no checkpoint is under way; else `Damaged`.
+    /// The memory of the shard, if no checkpoint is under way; else `Damaged`.
     pub fn into_memory(self) -> Result<Memory, Refusal>
         ensures ok { IfOk result (λ m. (m ≡ self.state) × (self.inside ≡ None)) }
         ensures damaged { IfErr result (λ e. (e ≡ Refusal.Damaged) × (self.inside ≡ None → ⊥)) }
@@ -66,7 +66,7 @@ impl Replay {
         }
     }
 
-    // Where no checkpoint is under way.
+    // If no checkpoint is under way.
     #[tactic(auto, unfolding(records::specs::Replays::shard_step))]
     fn take_outside(&mut self, alloc: Global, me: Identity, found: Record) -> Result<(), Refusal>
         requires outside { self.old.inside ≡ None }
@@ -107,7 +107,7 @@ impl Replay {
     {
         let begun = match &mark {
             Mark::Begins(generation) => Some(*generation),
-            // Nothing of a checkpoint stands before its begin.
+            // No part of a checkpoint comes before its begin.
             Mark::Row { .. } | Mark::Ends(_) => None,
         };
         drop(mark);
@@ -247,7 +247,7 @@ impl Replay {
         ensures err { IfErr result (λ e. (e ≡ Refusal.Damaged) ⊎ (e ≡ Refusal.NoMemory)) }
     {
         match mark {
-            // One checkpoint stands in no other.
+            // Checkpoints do not nest.
             Mark::Begins(_) => Err(Refusal::Damaged),
             Mark::Row { place, change } => {
                 let taken = self.take_row(me, inside, place, &change);

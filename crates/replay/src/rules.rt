@@ -15,7 +15,7 @@ use tuples::{Change, Condition, Entry, MAX_NUMBER, Tuple, WriteId, shard_of};
 pub fn may_prepare(me: Identity, memory: &Memory, entry: &Entry) -> bool
     ensures { IsTrue result ↔ MayPrepare me memory.now entry.now }
 {
-    // Nothing but an opening comes first.
+    // Only an opening comes first.
     if memory.epoch() == 0 {
         return false;
     }
@@ -28,7 +28,7 @@ pub fn may_prepare(me: Identity, memory: &Memory, entry: &Entry) -> bool
     are_tuples_own(me, entry)
 }
 
-/// Places only rise, up to the one learned to, and each placed id is of another write in doubt.
+/// Places only rise, up to the one learned to, and each placed id is of a different write in doubt.
 pub fn may_learn(memory: &Memory, to: u64, placed_ids: &[PlacedId]) -> bool
     ensures { IsTrue result ↔ MayLearn memory.now to placed_ids.now }
 {
@@ -55,7 +55,7 @@ pub fn may_drop(memory: &Memory, id: WriteId) -> bool
 pub fn may_open(me: Identity, memory: &Memory, epoch: u64, store: u64, shards: u8, node: u8) -> bool
     ensures { IsTrue result ↔ MayOpen me memory.now epoch store shards node }
 {
-    // The greatest number has none after it.
+    // Nothing follows the greatest number.
     if memory.epoch() >= MAX_NUMBER {
         return false;
     }

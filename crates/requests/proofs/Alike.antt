@@ -150,7 +150,7 @@ pub record SameWrite (cs ds : List ChangeShape) (us vs : List ConditionShape) : 
   pub asked : map conditioned_text us ≡ map conditioned_text vs
   pub conditions : map condition_json us ≡ map condition_json vs
 
--- what the causes of two forms with the same members rest on is the same
+-- what the causes of two forms with the same members depend on is the same
 abbrev pub Alike : Form → Form → Type 0
 Alike (Writes cs us) (Writes ds vs) = SameWrite cs ds (listed us) (listed vs)
 Alike (Reads f sets) (Reads g other) = SameFreshness f g × (borrowed_texts sets ≡ borrowed_texts other)

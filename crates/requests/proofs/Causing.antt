@@ -66,7 +66,7 @@ text_at f g (x ∷ xs) (z ∷ front) y back (suc n) d e is =
     let more : map f xs ≡ map g (front ++ y ∷ back) = cc in
     text_at f g xs front y back n d more (omega arith)
 
--- one condition more
+-- one more condition
 pub conditions_more : (store : ℕ) (shapes : List ConditionShape) (cs zs : List Condition) (tuples rest more : List Tuple) (n m : ℕ) (d : ConditionShape) (t : Tuple) (w : Want) → n < length shapes → n ≡ length cs
     → map conditioned_text shapes ≡ map tuple_text tuples → conditioned cs ++ rest ≡ tuples → rest ≡ t ∷ more
     → map condition_json (take n shapes) ≡ map (written_condition store) cs → ArePlaced store (take n shapes) → ReadsWant store (get_or shapes n d).want w

@@ -37,7 +37,7 @@ no_question_f (Exact z) op asked first rest e is = let same = first_bytes first 
 pub seconds : (k : List ℕ) (d e : Data) (fs gs : List Field) → (k, d) ∷ fs ≡ (k, e) ∷ gs → d ≡ e
 seconds k d e fs gs same = let one : (k, d) ≡ (k, e) = cc in ap (λ (x : Field). x.1) one
 
--- the parts of a write behind its first key
+-- the parts of a write after its first key
 pub record AreOfWrite (changes : Data) (rest : List Field) : Type 0 where
   pub list : List ChangeShape
   pub some : 1 ≤ length list

@@ -52,7 +52,7 @@ placed_at : (store : ℕ) (front : List ConditionShape) (first : ConditionShape)
 placed_at store [] first back h = All-head (WantMeets (IsOfStore store)) first back h
 placed_at store (c ∷ front) first back h = placed_at store front first back (All-tail (WantMeets (IsOfStore store)) c (front ++ first ∷ back) h)
 
--- where each zookie is of the store, none is the first that is not
+-- if each zookie is of the store, none is the first that is not
 pub first_unplaced : (store : ℕ) (IsBad : List ℕ → Type 0) → ((z : List ℕ) → IsBad z → IsOfStore store z → ⊥) → (ds : List ConditionShape) → IsFirst store IsBad ds → ArePlaced store ds → ⊥
 first_unplaced store IsBad none ds first placed =
     placed_excludes IsBad (IsOfStore store) none first.first.want first.bad (placed_at store first.front first.first first.back (subst (ArePlaced store) first.whole placed))

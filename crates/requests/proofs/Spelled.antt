@@ -25,14 +25,14 @@ value_at f g P (x ∷ xs) (y ∷ ys) (suc i) d h e each =
     let more : map f xs ≡ map g ys = cc in
     value_at f g P xs ys i d (omega arith) more (All-tail P y ys each)
 
--- one text more
+-- one more text
 pub texts_more : {A B C : Type 0} (f : A → C) (g : B → C) (P : B → Type 0) (xs : List A) (ys zs : List B) (i : ℕ) (d : A) (y : B) → i < length xs → (map f (take i xs) ≡ map g ys) × All P ys → P y → f (get_or xs i d) ≡ g y
     → zs ≡ ys ++ y ∷ [] → (map f (take (i + 1) xs) ≡ map g zs) × All P zs
 texts_more {A} {B} {C} f g P xs ys zs i d y h so_far valid text pushed =
     let more : map f (take (i + 1) xs) ≡ map g (ys ++ y ∷ []) = map_more f g xs ys i d y h so_far.0 text in
     (more ∙ ap (map g) (sym pushed), subst (λ (l : List B). All P l) (sym pushed) (All-push P ys y so_far.1 valid))
 
--- a text that is none
+-- a text that is not valid
 pub texts_refused : {A B C : Type 0} (f : A → C) (g : B → C) (P : B → Type 0) (xs : List A) (i : ℕ) (d : A) (e : Refusal) → i < length xs → IsMisspelled (λ y. P y × (f (get_or xs i d) ≡ g y)) e
     → IsMisspelled (λ (ys : List B). (map f xs ≡ map g ys) × All P ys) e
 texts_refused f g P xs i d e h (inl r) = inl (r.0, λ ys are. let v = value_at f g P xs ys i d h are.0 are.1 in r.1 v.0 (v.1, v.2))
@@ -46,7 +46,7 @@ pub own_texts : {A : Type 0} (xs : List A) → map (λ x. x) xs ≡ xs
 own_texts [] = refl
 own_texts {A} (x ∷ xs) = ap (λ (l : List A). x ∷ l) (own_texts xs)
 
--- one change more
+-- one more change
 pub changes_more : (xs : List ChangeShape) (ys zs : List Change) (i : ℕ) (d : ChangeShape) (y : Change) → i < length xs → map change_json (take i xs) ≡ map written_change ys → AreTuples (map changed_text (take i xs)) (changed ys) → ReadsChange (get_or xs i d) y
     → zs ≡ ys ++ y ∷ [] → (map change_json (take (i + 1) xs) ≡ map written_change zs) × AreTuples (map changed_text (take (i + 1) xs)) (changed zs)
 changes_more xs ys zs i d y h json tuples reads pushed =

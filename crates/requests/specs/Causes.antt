@@ -1,4 +1,4 @@
--- Why a line is refused: the first that is wrong with it, in the order shape, sizes, texts, zookies, repeats.
+-- Why a line is refused: the first thing wrong with it, in the order shape, sizes, texts, zookies, repeats.
 use Rattle.std.specs.Prelude.{◌≡◌, ◌≤◌, ◌<◌, ◌^◌, ◌⊎◌, ℕ, List, [], ◌∷◌, ◌++◌, length, map, All, Option, Some, None}
 use Rattle.tuples.specs.declared.tuple.Tuple.{Tuple}
 use Rattle.tuples.specs.declared.tupleset.Tupleset.{Tupleset}
@@ -60,7 +60,7 @@ IsMisplaced IsBad Absent = ⊥
 abbrev pub ArePlaced : ℕ → List ConditionShape → Type 0
 ArePlaced store conditions = All (λ (c : ConditionShape). IsPlaced (IsOfStore store) c.want) conditions
 
--- the first zookie that is none of this store is bad in this way
+-- the first zookie that is not of this store is bad in this way
 pub record IsFirst (store : ℕ) (IsBad : List ℕ → Type 0) (conditions : List ConditionShape) : Type 0 where
   pub front : List ConditionShape
   pub first : ConditionShape
@@ -93,7 +93,7 @@ WriteCause store changes conditions Repeated = AreFew changes conditions × AreP
 WriteCause store changes conditions NoMemory = Unit {0}
 WriteCause store changes conditions _ = ⊥
 
--- of texts of which there may be this many; `AreRead` says that they are spelled, and `IsOne` what is wrong with the zookie
+-- of this many texts; `AreRead` says that they are spelled, and `HasZookie` what is wrong with the zookie
 abbrev pub ListCause : ℕ → ℕ → Type 0 → ((List ℕ → Type 0) → Type 0) → Refusal → Type 0
 ListCause store count AreRead HasZookie TooLarge = 16 < count
 ListCause store count AreRead HasZookie BadTuple = (count ≤ 16) × (AreRead → ⊥)

@@ -41,10 +41,10 @@ IsRequest (Watch from limit namespaces) = IsPlace from × All IsName namespaces.
 abbrev pub IsSpelled : ℕ → List ℕ → Request → Type 0
 IsSpelled store line r = (fields : List Field) × IsObject line fields × Spells store fields r × IsRequest r
 
--- A line that spells a request is refused for want of memory alone.
+-- A line that spells a request is refused only for lack of memory.
 abbrev pub NoneIsSpelledAndRefused : Type 0
 NoneIsSpelledAndRefused = (store : ℕ) (line : List ℕ) (r : Request) (e : Refusal) → store < 2 ^ 64 → IsSpelled store line r → Cause store line e → e ≡ NoMemory
 
--- A line is refused for one cause, or for want of memory.
+-- A line is refused for one cause, or for lack of memory.
 abbrev pub OneCauseALine : Type 0
 OneCauseALine = (store : ℕ) (line : List ℕ) (e other : Refusal) → store < 2 ^ 64 → Cause store line e → Cause store line other → (e ≡ other) ⊎ ((e ≡ NoMemory) ⊎ (other ≡ NoMemory))

@@ -24,7 +24,7 @@ abbrev pub written_change : Change → Data
 written_change (change.Touch t) = change_with (codes "touch") (tuple_text t)
 written_change (change.Delete t) = change_with (codes "delete") (tuple_text t)
 
--- a place is told by the zookie of this store
+-- a place is written as the zookie of this store
 abbrev pub written_want : ℕ → Want → List ℕ → Data
 written_want store (want.NotAfter place) tuple = since_with (zookie_text store place) tuple
 written_want store want.Exists tuple = want_with (codes "exists") tuple

@@ -1,4 +1,4 @@
--- The JSON of each request, whose texts may be those of no tuple and of no token. The members of an object come in the order of their keys.
+-- The JSON of each request, whose texts may be of no tuple and of no token. The members of an object come in the order of their keys.
 use Rattle.std.specs.Prelude.{◌≡◌, ◌≤◌, ◌⊎◌, ℕ, List, [], ◌∷◌, ◌++◌, length, map, codes, Option, Some, None, option_map, Result, Ok, Err, String, string_bytes}
 use Rattle.std.specs.Borrow.{Bor}
 use Rattle.tuples.specs.Limits.{max_watched}
@@ -64,7 +64,7 @@ wanted_json Absent tuple = want_with (codes "absent") tuple
 abbrev pub condition_json : ConditionShape → Data
 condition_json c = wanted_json c.want c.tuple.now
 
--- {"changes":[..],"op":"write"}, with "conditions":[..] where there are any; an empty list of them may be left out
+-- {"changes":[..],"op":"write"}, with "conditions":[..] if there are any; an empty list of them may be left out
 abbrev pub write_with : List Data → Option (List Data) → List Field
 write_with changes None = (codes "changes", list_with changes) ∷ (codes "op", string (codes "write")) ∷ []
 write_with changes (Some conditions) = (codes "changes", list_with changes) ∷ (codes "conditions", list_with conditions) ∷ (codes "op", string (codes "write")) ∷ []
@@ -86,7 +86,7 @@ asks_sets sets = (codes "sets", texts_json sets)
 abbrev pub asks_tuple : List ℕ → Field
 asks_tuple tuple = (codes "tuple", string tuple)
 
--- the members of a watch behind its limit, and behind its cursor
+-- the members of a watch after its limit, and after its cursor
 abbrev pub watch_end : Data → List Field
 watch_end namespaces = (codes "namespaces", namespaces) ∷ (codes "op", string (codes "watch")) ∷ []
 
@@ -128,7 +128,7 @@ IsFormed (Watches from limit namespaces) = (1 ≤ limit) × (limit ≤ max_watch
 abbrev pub entry_fields : List (String Global × Value) → List Field
 entry_fields = map (λ e. (string_bytes e.0, view e.1))
 
--- why a value is not read: it is in no such shape, or no memory
+-- why a value is not read: it is not in such a shape, or there is no memory
 abbrev pub IsMisshapen : {A : Type 0} → (A → Type 0) → Refusal → Type 0
 IsMisshapen {A} IsRead e = ((e ≡ BadRequest) × ((a : A) → IsRead a → ⊥)) ⊎ (e ≡ NoMemory)
 
@@ -144,7 +144,7 @@ ReadsShape fields (Err e) = IsMisshapen (HasForm fields) e
 abbrev pub OpensWith : List Field → FreshnessShape → Data → List Field → Type 0
 OpensWith fields freshness op asked = fields ≡ freshness_fields freshness ++ (codes "op", op) ∷ asked
 
--- what stands behind the freshness; the op does, wherever the members are those of a question
+-- what stands after the freshness; the op does, wherever the members are those of a question
 pub record IsBehind (fields : List Field) (freshness : FreshnessShape) (rest : List Field) : Type 0 where
   pub whole : fields ≡ freshness_fields freshness ++ rest
   pub only : (other : FreshnessShape) (op : Data) (asked : List Field) → OpensWith fields other op asked → rest ≡ (codes "op", op) ∷ asked

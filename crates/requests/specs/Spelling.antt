@@ -14,7 +14,7 @@ use Rattle.requests.specs.Causes.{IsFirst, IsOfStore, IsPlaced, changed_text}
 use Rattle.requests.specs.Lines.{written_change, written_want}
 use Rattle.requests.specs.Shapes.{change_json, wanted_json}
 
--- why a value is not read of a text in its shape: a text is none of the grammar, or no memory
+-- why a value is not read of a text in its shape: the text is not in the grammar, or there is no memory
 abbrev pub IsMisspelled : {A : Type 0} → (A → Type 0) → Refusal → Type 0
 IsMisspelled {A} IsRead e = ((e ≡ BadTuple) × ((a : A) → IsRead a → ⊥)) ⊎ (e ≡ NoMemory)
 
@@ -35,7 +35,7 @@ pub record ReadsWant (store : ℕ) (shape : WantShape) (want : Want) : Type 0 wh
   pub json : (tuple : List ℕ) → wanted_json shape tuple ≡ written_want store want tuple
   pub placed : IsPlaced (IsOfStore store) shape
 
--- why conditions are not read, whose tuples are
+-- why conditions whose tuples are read are not
 abbrev pub IsUnplaced : ℕ → List ConditionShape → Refusal → Type 0
 IsUnplaced store conditions BadZookie = IsFirst store IsNoZookie conditions
 IsUnplaced store conditions WrongStore = IsFirst store (IsOfAnotherStore store) conditions

@@ -36,7 +36,7 @@ fn entries_of(alloc: Global, map: &Map<String, Value>) -> Result<Vec<Member<'_>>
     Ok(members)
 }
 
-/// The value of the first member and the members after it, where it has this key.
+/// The value of the first member and the members after it, if it has this key.
 pub(crate) fn take<'a, 'b>(
     members: &'b [Member<'a>],
     key: &str,

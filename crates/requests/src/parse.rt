@@ -21,9 +21,9 @@ use std::alloc::Global;
 use tuples::{MAX_ASKED, MAX_CHANGES, MAX_CONDITIONS, Refusal, Request, Write};
 
 /// The request that the line spells, at a store with this id; the line comes without its line feed. A refusal is that of the first
-/// thing wrong, in this order: `BadRequest` where the line is the JSON of no request's shape, `TooLarge` for more changes, conditions,
-/// tuplesets or namespaces than the limits, `BadTuple` where a text is none, `BadZookie` or `WrongStore` for the first zookie that is
-/// none of this store, `Repeated` where two changes or two conditions name one tuple. `NoMemory` may come over any line.
+/// thing wrong, in this order: `BadRequest` if the line is not JSON in a request's shape, `TooLarge` for more changes, conditions,
+/// tuplesets or namespaces than the limits, `BadTuple` if a text is not in its grammar, `BadZookie` or `WrongStore` for the first
+/// zookie that is not of this store, `Repeated` if two changes or two conditions name one tuple. `NoMemory` may come for any line.
 pub fn parse_request(alloc: Global, line: &[u8], store: u64) -> Result<Request, Refusal>
     ensures ok { IfOk result (λ r. (fields : List Field) × IsObject line.now fields × Spells store fields r) }
     ensures err { IfErr result (Cause store line.now) }

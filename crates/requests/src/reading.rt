@@ -85,7 +85,7 @@ fn watch_parts<'a>(from: &'a Value, rest: &[Member<'a>]) -> Option<(&'a str, u16
     Some((from, limit, namespaces))
 }
 
-// The value of the namespaces, behind the limit.
+// The value of the namespaces, after the limit.
 fn watched<'a>(rest: &[Member<'a>]) -> Option<&'a Value>
     ensures { MatchOption result ((d : Data) → fields_of rest.now ≡ watch_end d → ⊥) (λ d. fields_of rest.now ≡ watch_end (view d.now)) }
 {
@@ -179,7 +179,7 @@ fn split_question<'a>(members: &[Member<'a>]) -> Option<(FreshnessShape<'a>, &'a
     Some((freshness, op, *asked))
 }
 
-// The freshness, and the members behind it.
+// The freshness, and the members after it.
 fn freshness_of<'a, 'b>(members: &'b [Member<'a>]) -> Option<(FreshnessShape<'a>, &'b [Member<'a>])>
     ensures { MatchOption result ((f : AnyFreshness) (op : Data) (asked : List Field) → OpensWith (fields_of members.now) f op asked → ⊥) (λ p. IsBehind (fields_of members.now) p.0 (fields_of p.1.now)) }
 {

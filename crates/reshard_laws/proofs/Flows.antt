@@ -40,7 +40,7 @@ module _ (P : Asked → Type 0) where
 
 -- ---- a world in which no flow runs
 
--- where no slot has a flow none runs
+-- if no slot has a flow none runs
 none_runs : (rs : List Running) → ((slot : ℕ) → flow_at slot rs ≡ None) → rs ≡ []
 none_runs [] none = refl
 none_runs (q ∷ rs) none = absurd (⊎_elim

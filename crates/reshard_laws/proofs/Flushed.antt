@@ -69,7 +69,7 @@ module _ {D : Type 0} (state : D → State) (honest : D → Type 0) (moment : D 
               (flow_at slot g.cared.keeps.after.running) refl r.takes;
         }
 
-    -- the world behind it, at a moment at which all is kept
+    -- the world after it, at a moment at which all is kept
     abbrev pub Flushed : WorldView D → Type 0
     Flushed w = (c : CaredAt w) × (c.keeps.after.machine.kept ≡ length c.keeps.after.machine.log)
 

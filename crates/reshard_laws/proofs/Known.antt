@@ -22,7 +22,7 @@ use Rattle.reshard_laws.proofs.Sorted.{sorted_alike}
 
 module _ {D : Type 0} (state : D → State) (honest : D → Type 0) (moment : D → ℕ) (left_since : D → ℕ → List ℕ → Type 0) (store shards : ℕ) (w : WorldView D) (s : Store D) (now : Moment)
     (shows : Shows w s) (stands : StandsOver state honest store shards s now) (store_is : w.store ≡ store) (shards_is : w.shards ≡ shards) (reach : Reach) (reached : HaveReached state honest w.nodes w.shards reach) where
-  -- a coordinator that is up, and reaches so far
+  -- a coordinator that is up, and reaches this far
   pub record HasLog : Type 0 where
     pub v : CoordinatorView D
     pub at : node_at w.nodes Coordinator ≡ Some (views.coordinator v)

@@ -21,7 +21,7 @@ use Rattle.reshard_laws.proofs.FirstLog.{first_log}
 use Rattle.reshard_laws.proofs.FirstShard.{first_image, first_is}
 use Rattle.reshard_laws.proofs.Rows.{own_alike, versions_kept}
 
--- ---- the devices of nodes, one behind the other
+-- ---- the devices of nodes, one after another
 
 two_each : {D : Type 0} (nodes : List (BegunView D)) → length (devices_of nodes) ≡ 2 * length nodes
 two_each [] = refl

@@ -1,4 +1,4 @@
--- What a stop leaves of the new coordinator, at every moment of a carrying.
+-- What a stop leaves of the new coordinator, at every moment of a resharding.
 use Rattle.std.proofs.Common.{◌≡◌, ◌⊎◌, ◌+◌, ◌-◌, inl, inr, ⊎_elim, ℕ, false, List, [], ◌∷◌, ◌++◌, All, Some, drop, refl, sym, ◌∙◌, ap, subst, arith}
 use Rattle.std.proofs.lemmas.List.Elements.{All-head, All-tail}
 use Rattle.calls.specs.Views.{coordinator}

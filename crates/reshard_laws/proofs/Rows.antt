@@ -32,7 +32,7 @@ none_of : (t : Tuple) (place : ℕ) (changes : List Change) → has_tuple t (cha
 none_of t place [] none = refl
 none_of t place (c ∷ changes) none = rw (or_first (tuple_eq t (tuple_of c)) (has_tuple t (changed changes)) none) (none_of t place changes (or_second (tuple_eq t (tuple_of c)) (has_tuple t (changed changes)) none))
 
--- of one write, and of those behind it
+-- of one write, and of those after it
 strict_placed : (t : Tuple) (n place : ℕ) (changes : List Change) (more : List Version) → n < place → AreDistinct (changed changes) → Strict place more → Strict n (of_tuple t (placed place changes) ++ more)
 strict_placed t n place [] more lt distinct strict = strict_weaker n place more (omega (arith, lt)) strict
 strict_placed t n place (c ∷ changes) more lt distinct strict = ⊎_elim
@@ -123,7 +123,7 @@ module _ (shards : ℕ) where
   either : (x s : ℕ) → (nat_lt x s || (x == s)) ≡ nat_lt x (suc s)
   either x s = grind (arith, tests)
 
-  -- one version more, which is of those, of the next shard, or of neither
+  -- one more version, which is of those, of the next shard, or of neither
   one_version : (v : Version) (first own both : List Version) (a b c : Bool) → (a ≡ true → b ≡ false) → (a || b) ≡ c → IsPermutation (first ++ own) both → IsPermutation (cond a (v ∷ first) first ++ cond b (v ∷ own) own) (cond c (v ∷ both) both)
   one_version v first own both true b c one is rest =
       subst (λ (x : Bool). IsPermutation ((v ∷ first) ++ cond x (v ∷ own) own) (cond c (v ∷ both) both)) (sym (one refl))

@@ -143,14 +143,14 @@ module _ (a b c d e f : List ℕ) where
       rows (suc zero) lt = has e f _ second
       rows (suc (suc s)) lt = absurd (omega (arith, lt))
 
-  -- not where the coordinator begins anew: the write's id would be given again
+  -- not if the coordinator starts over: the write's id would be given again
   from_epoch_0 : found a b ≡ Some (coordinator_checkpoint (coordinator_node 7 2) 1 (record knew { epoch = 0 })) → AreAtRest → ⊥
   from_epoch_0 log rests =
       let low = rests.given write (0, omega arith, refl) (coordinator_checkpoint (coordinator_node 7 2) 1 (record knew { epoch = 0 })) (a, b, leaves_itself a, leaves_itself b, log) in
       let epoch = ap (λ (s : CoordinatorState). s.epoch) (checkpoint_state (coordinator_node 7 2) 1 (record knew { epoch = 0 })) in
       omega (arith, low, epoch)
 
-  -- nor where a shard tells other versions than its own: where one is left behind, or is at another shard too
+  -- nor if a shard tells other versions than its own: if one is left behind, or is at another shard too
   told_by : (s : ℕ) (x y : List ℕ) (rows : List Version) → s < 2 → devices_at (holding []) devices (shard s) ≡ (holding x, holding y) → found x y ≡ Some (shard_first (shard_node 7 2 s) reach rows) → AreAtRest
       → of_tuple (viewed 97) (of_shard 2 s rows) ≡ of_tuple (viewed 97) (of_shard 2 s (versions (write ∷ []) 1 0))
   told_by s x y rows lt at is rests =
@@ -174,7 +174,7 @@ module _ (a b c d e f : List ℕ) where
       ∙ ap (λ (k : ShardState). of_tuple (viewed 97) (of_shard 2 0 (versions (write ∷ []) k.learned k.horizon))) state in
       absurd cc
 
-  -- nor where it has not learned what is listed, and nothing is in doubt there
+  -- nor if it has not learned what is listed, and nothing is in doubt there
   behind_the_list : found e f ≡ Some (shard_first (shard_node 7 2 1) (record { place = 0; horizon = 0 }) []) → AreAtRest → ⊥
   unfolding expected takes_part part shard_of
   behind_the_list second rests =

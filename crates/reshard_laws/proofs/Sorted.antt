@@ -94,7 +94,7 @@ same_rest n a b xs ys strict counts has same =
           (has v (inr later)),
     )
 
--- one that rises strictly, and one that does not fall and has no other versions, are one where as many stand at each place
+-- one that rises strictly, and one that does not fall and has no other versions, are one if as many stand at each place
 same_list : (n m : ℕ) (xs ys : List Version) → Strict n xs → RisesFrom m ys → ((k : ℕ) → count_at k ys ≡ count_at k xs) → ((v : Version) → Has ys v → Has xs v) → ys ≡ xs
 same_list n m [] [] strict rises counts has = refl
 same_list n m [] (b ∷ ys) strict rises counts has = absurd (has b (inl refl))

@@ -20,14 +20,14 @@ pub record HasSameList (old new : Machine) : Type 0 where
 
 module _ {D : Type 0} (state : D → State) (honest : D → Type 0) (moment : D → ℕ) (left_since : D → ℕ → List ℕ → Type 0) where
   module _ (store shards : ℕ) where
-    -- These steps, the last of which stands first, lead from a moment for which a store stands to another, and each keeps the promise of a step: among it that
-    -- at every moment inside a stop leaves what means the list. And each leaves the list as it is.
+    -- These steps, listed last first, lead from a moment for which a store stands to another, and each keeps the promise of a step: so at every moment inside
+    -- it a stop leaves what means the list. And each leaves the list as it is.
     abbrev pub RanAll : Store D → Moment → List Step → Store D → Moment → Type 0
     RanAll old now [] new after = (new ≡ old) × (after ≡ now)
     RanAll old now (step ∷ before) new after = (mid : Store D) × (next : Moment) × (events : List Event) × RanAll old now before mid next
         × (ran : Ran state honest moment left_since store shards mid next 0 step events new) × HasSameList next.machine ran.after.machine × (after ≡ ran.after)
 
-    -- A store that shows the world behind such steps, and stands for a moment with the same list. Its horizon is the one from before, or one to which a record
+    -- A store that shows the world after such steps, and stands for a moment with the same list. Its horizon is the one from before, or one to which a record
     -- or a flow from before was to raise it. What was told stays so, and a write that came to nothing still has.
     pub record KeepsList (s : Store D) (now : Moment) (new : WorldView D) : Type 0 where
       pub later : Store D
@@ -48,7 +48,7 @@ module _ {D : Type 0} (state : D → State) (honest : D → Type 0) (moment : D 
   CaresKeepTheList = (old new : WorldView D) (s : Store D) (now : Moment) → Shows old s → flow_count old.flows ≡ 0 → StandsOver state honest old.store old.shards s now
       → Cares state honest moment left_since old new → KeepsList old.store old.shards s now new
 
-  -- And where the first of them was a flush of the coordinator that told its end, all of the list is kept behind them.
+  -- And if the first of them was a flush of the coordinator that told its end, all of the list is kept after them.
   abbrev pub FlushedListsAreKept : Type 0
   FlushedListsAreKept = (old new : WorldView D) (s : Store D) (now : Moment) → Shows old s → flow_count old.flows ≡ 0 → StandsOver state honest old.store old.shards s now
       → IsCaredFor state honest moment left_since old new → (k : KeepsList old.store old.shards s now new) × (k.after.machine.kept ≡ length k.after.machine.log)

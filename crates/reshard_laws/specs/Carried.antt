@@ -25,9 +25,9 @@ use Rattle.turns.specs.Reopens.{Reopened}
 use Rattle.reshard_laws.specs.Cared.{KeepsList}
 
 module _ {D : Type 0} (state : D → State) (honest : D → Type 0) (moment : D → ℕ) (left_since : D → ℕ → List ℕ → Type 0) where
-  -- The devices of a store of so many shards rest at a machine, for which a store of another number of shards with the same id stood: at all of its list, the
-  -- horizon being the same. The coordinator was opened as often as the old one, so its next opening is of a later epoch than each id that the old one gave:
-  -- none of them is given again, each that was told to be aborted still is, and so is each that the list does not have above the horizon.
+  -- The devices of a store of this many shards rest at a machine, for which a store of another number of shards with the same id stood: at all of its list,
+  -- the horizon being the same. The coordinator was opened as often as the old one, so its next opening is of a later epoch than each id that the old one
+  -- gave: none of them is given again, each that was reported aborted still is, and so is each that the list does not have above the horizon.
   pub record CarriesOn (store old_shards shards : ℕ) (old new : NodeName → D × D) (m : Machine) : Type 0 where
     pub all_kept : m.kept ≡ length m.log
     pub rests : RestsOver state honest store shards new m
@@ -66,8 +66,8 @@ module _ {D : Type 0} (state : D → State) (honest : D → Type 0) (moment : D 
       → IsCaredFor state honest moment left_since opened cared → IsCarriedOver state honest cared shards given made → All honest given
       → IsCarriedFrom store old_shards shards any old m ids cared made
 
-  -- A place of the old list shows the same tuples at every place of whatever lives the new store has: it goes on behind the whole list. So each token reads
-  -- what it read before, where it is not below the horizon.
+  -- A place of the old list shows the same tuples at every place of whatever lives the new store has: it goes on after the whole list. So each token reads
+  -- what it read before, if it is not below the horizon.
   abbrev pub TokensReadTheSame : (D → ℕ → Tear → Type 0) → Type 0
   TokensReadTheSame set = (any : D) (store old_shards shards : ℕ) (old : NodeName → D × D) (made new : List D) (m : Machine) (ids : List WriteId) (lives : List Life)
       → 1 ≤ shards → shards ≤ max_shards → length made ≡ 2 * (shards + 1) → CarriesOn store old_shards shards old (devices_at any made) m

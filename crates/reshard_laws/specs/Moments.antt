@@ -1,4 +1,4 @@
--- What a stop leaves of the new coordinator, at every moment of a carrying: the statement of the law.
+-- What a stop leaves of the new coordinator, at every moment of a resharding: the statement of the law.
 use Rattle.std.specs.Prelude.{◌≡◌, ◌⊎◌, ℕ, List, [], ◌∷◌, All, None, Some}
 use Rattle.calls.specs.Views.{coordinator}
 use Rattle.calls.specs.declared.carrying.Reach.{Reach}

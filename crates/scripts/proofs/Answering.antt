@@ -20,7 +20,7 @@ use Rattle.scripts.specs.Runs.{EndsPart, EndsWith, RepliesTo, Tells, TellsPart}
 use Rattle.scripts.proofs.RunLemmas.{prints_one}
 
 module _ {S : Type 0} (takes : S → Step → Option What → S → Type 0) (nexts : S → ℕ → Option CallName → Type 0) (shows : S → ℕ → Result (Vec Version) Refusal → Type 0) (sets : S → NodeName → Bank → ℕ → Tear → S → Type 0) (reshards : S → ℕ → Result (Unit {0}) Refusal → S → S → Type 0) (shards_of : S → ℕ) (line : List ℕ) (a b : ScriptView S) (before after : Option (List ℕ)) where
-  -- the script has put its answer behind nothing
+  -- the script has put its answer after nothing
   module _ (cleared out bytes : List ℕ) (none : cleared ≡ []) (answered : (text : List ℕ) × Answers takes nexts shows sets reshards shards_of line a text b × (out ≡ cleared ++ text)) (same : bytes ≡ out) where
     replied : length line ≤ max_line → RepliesTo takes nexts shows sets reshards shards_of line a bytes b
     replied small =

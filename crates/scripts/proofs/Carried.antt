@@ -35,7 +35,7 @@ pub no_cares : {S : Type 0} {takes : S → Step → Option What → S → Type 0
 no_cares old new is = record { steps = []; caring = tt; took = is }
 
 module _ {D : Type 0} (state : D → State) (honest : D → Type 0) (w : WorldView D) (quiet : flow_count w.flows ≡ 0) where
-  -- where no flow runs it lies at the nodes alone
+  -- if no flow runs it lies at the nodes alone
   pub ready : (r : Result (Unit {0}) Refusal) → MatchResult r (λ done. AreUp state honest w) (IsFirstDown state honest w) → MatchResult r (λ done. IsReady state honest w) (IsUnready state honest w)
   ready (Ok done) up = (quiet, up)
   ready (Err e) down = inr (quiet, down)

@@ -1,4 +1,4 @@
--- What was done for the lines of a script leads from the store before them to the store behind them.
+-- What was done for the lines of a script leads from the store before them to the store after them.
 use Rattle.std.proofs.Common.{◌≡◌, ◌≤◌, ◌⊎◌, inl, inr, ℕ, List, [], ◌∷◌, ◌++◌, ap, refl, subst, sym, slice_index, Option, None, Some, Result, Ok, Err}
 use Rattle.std.specs.Global.{Vec}
 use Rattle.names.specs.declared.node_name.NodeName.{NodeName}

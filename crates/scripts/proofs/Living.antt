@@ -1,4 +1,4 @@
--- A script over empty disks is one life of a store, or one behind the other.
+-- A script over empty disks is one life of a store, or one after another.
 use Rattle.std.proofs.Common.{◌≡◌, ◌≤◌, ◌+◌, ◌*◌, ◌++◌, ℕ, List, [], ◌∷◌, All, Option, length, refl, subst, sym, ◌∙◌}
 use Rattle.std.proofs.lemmas.List.Elements.{All-cons, All-nil, All-weaker}
 use Rattle.cluster.specs.Openings.{IsOpenedOver}
@@ -55,7 +55,7 @@ module _ {D : Type 0} (gives : D → Type 0) (set_to : D → ℕ → Tear → Ty
       law store shards any devices opened new (acts_of deeds) (told_by deeds) m ids some few count rests told is
       (whole set_to state honest moment left_since deeds opened new did) (acted set_to state honest moment left_since deeds opened new did)
 
-  -- the devices of what it became rest where it stood behind its cares
+  -- the devices of what it became rest where it stood after its cares
   carries_on : (store shards : ℕ) (devices : List D) (m : Machine) (ids : List WriteId) (opened was cared new : WorldView D) (deeds : List Deed) (to : ℕ) → 1 ≤ to → to ≤ max_shards
       → (life : LivesActing set_to state honest moment left_since store shards (devices_at any devices) m ids opened (acts_of deeds) (told_by deeds) was) → IsReady state honest was
       → (carried : IsMoved gives state honest moment left_since was cared to new) → KeepsAndCarries state honest moment left_since store shards to any life.acted.later life.acted.after cared carried.made
@@ -68,7 +68,7 @@ module _ {D : Type 0} (gives : D → Type 0) (set_to : D → ℕ → Tear → Ty
       subst (λ (n : ℕ). KeepsAndCarries state honest moment left_since n shards to any life.acted.later life.acted.after cared carried.made) store_is
       (subst (λ (n : ℕ). KeepsAndCarries state honest moment left_since was.store n to any life.acted.later life.acted.after cared carried.made) shards_is rest)
 
-  -- and its story one life behind the other
+  -- and its story one life after another
   pub lives : (store shards : ℕ) (devices : List D) (m : Machine) (ids : List WriteId) (opened : WorldView D) (story : Story (WorldView D)) (new : WorldView D) → 1 ≤ shards → shards ≤ max_shards
       → length devices ≡ 2 * (shards + 1) → RestsOver state honest store shards (devices_at any devices) m → All (IsToldOver state honest store shards (devices_at any devices) m) ids
       → IsOpenedOver state honest moment left_since store shards devices opened → WentOn opened story new → Lives gives set_to state honest moment left_since any store shards (devices_at any devices) m ids opened story new

@@ -58,7 +58,7 @@ short id (Some (Ended Done)) is = absurd is
 short id (Some Up) is = absurd is
 short id (Some (Refused e)) is = refusal_short e
 
--- and where it says that memory was refused, that was told
+-- and if it says that memory was refused, that was told
 refused_text : (id : ℕ) (told : Option What) → IsOfWrite told → told_text id told ≡ refusal_line NoMemory → told ≡ Some (Refused NoMemory)
 refused_text id None is text = absurd (let none : 0 ≡ length (refusal_line NoMemory) = ap length text in omega (arith, none))
 refused_text id (Some (Began slot)) is text = absurd is

@@ -1,4 +1,4 @@
--- Room is asked for only where each call is to have some, and a part of what is printed needs no more than all of it.
+-- Room is asked for only if each call is to have some, and a part of what is printed needs no more than all of it.
 use Rattle.std.proofs.Common.{◌≡◌, ◌≤◌, ◌<◌, ◌+◌, ◌++◌, ℕ, zero, suc, List, [], ◌∷◌, arith, get_or, length, take}
 use Rattle.std.specs.List.{flat_map}
 use Rattle.std.proofs.lemmas.List.{length-append}

@@ -33,7 +33,7 @@ begun_more before mid after text bytes first h = record {
   written = Appends-trans before mid after text h.sent first h.written;
 }
 
--- ---- one line more
+-- ---- one more line
 
 module _ {S : Type 0} (takes : S → Step → Option What → S → Type 0) (nexts : S → ℕ → Option CallName → Type 0) (shows : S → ℕ → Result (Vec Version) Refusal → Type 0) (sets : S → NodeName → Bank → ℕ → Tear → S → Type 0) (reshards : S → ℕ → Result (Unit {0}) Refusal → S → S → Type 0) (shards_of : S → ℕ) where
   prints_more : (a : ScriptView S) (lines : List (List ℕ)) (text : List ℕ) (b : ScriptView S) (more : List (List ℕ)) (rest : List ℕ) (c : ScriptView S)

@@ -30,7 +30,7 @@ module _ (w : Write) where
   abbrev first : Step
   first = Start (request.Write w)
 
-  -- where nothing is done, or the flow ends so, the write was refused memory
+  -- if nothing is done, or the flow ends so, the write was refused memory
   did_nothing : (end : What) → IsRefusedMemory (takes end) nexts first 0 0
   did_nothing end = inl refl
 

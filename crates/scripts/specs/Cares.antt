@@ -25,7 +25,7 @@ module _ {S : Type 0} (takes : S → Step → Option What → S → Type 0) wher
 
   -- Given how a store that was cared for is carried over, or refuses
   module _ (reshards : S → ℕ → Result (Unit {0}) Refusal → S → S → Type 0) where
-    -- A store is cared for, and is then carried over to one of so many shards; or it is told why it is not, and stays as the cares have left it.
+    -- A store is cared for, and is then carried over to one of this many shards; or it is told why it is not, and it stays as the cares have left it.
     pub record Moves (shards : ℕ) (old : S) (result : Result (Unit {0}) Refusal) (new : S) : Type 0 where
       pub cared : S
       pub cares : Cares old cared

@@ -28,7 +28,7 @@ pub data Deed : Type 0 where
   took : Step → Option What → Deed
   set : NodeName → Bank → ℕ → Tear → Deed
 
--- A store was this, was cared for and was that, and then it was carried over to one of so many shards.
+-- A store was this, was cared for and was that, and then it was carried over to one of this many shards.
 pub record Move (S : Type 0) : Type 0 where
   pub was : S
   pub cared : S
@@ -66,7 +66,7 @@ told_by [] = []
 told_by (took s told ∷ deeds) = told ∷ told_by deeds
 told_by (set name bank n tear ∷ deeds) = told_by deeds
 
--- turns of the flow in a slot, of which the last one's word stands first
+-- turns of the flow in a slot, the last one's word first
 abbrev pub turns_done : ℕ → List (Option What) → List Deed
 turns_done slot [] = []
 turns_done slot (told ∷ before) = turns_done slot before ++ took (step.Turn slot) told ∷ []
@@ -85,7 +85,7 @@ module _ {S : Type 0} (takes : S → Step → Option What → S → Type 0) (nex
   abbrev pub giving_up_done : (slot each : ℕ) (old new : S) → GivesUp takes nexts slot each old new → List Deed
   giving_up_done slot each old new g = turns_done slot g.1.all ++ ending_done slot g.0 new g.2
 
-  -- for what a step told that was to begin a flow
+  -- for what a step that was to begin a flow told
   abbrev pub end_done : (id : ℕ) (told : Option What) (old : S) (text : List ℕ) (new : S) → Ends takes nexts id told old text new → List Deed
   end_done id None old text new e = []
   end_done id (Some (Began slot)) old text new e = turns_done slot e.1.all
@@ -165,7 +165,7 @@ module _ {S : Type 0} (takes : S → Step → Option What → S → Type 0) (nex
   reply_done line a text b (inl (small, (id, inr refused))) = one_life []
   reply_done line a text b (inr refused) = one_life []
 
-  -- for lines, one behind the other
+  -- for lines, one after another
   abbrev pub done_for : (a : ScriptView S) (lines : List (List ℕ)) (text : List ℕ) (c : ScriptView S) → Prints takes nexts shows sets reshards shards_of a lines text c → Story S
   done_for a [] text c p = one_life []
   done_for a (line ∷ lines) text c p = joined (reply_done line a p.1 p.0 p.3) (done_for p.0 lines p.2 c p.4)

@@ -6,7 +6,7 @@ use Rattle.cluster.specs.declared.step.Step.{Step}
 use Rattle.cluster.specs.declared.step.Step.TheVariants.{Turn}
 use Rattle.lines.specs.declared.flow.Handling.TheVariants as handling
 
--- the call is the one that is asked for; where none is asked for, no call is it
+-- the call is the one that is asked for; if none is, no call is it
 abbrev pub IsAsked : Option CallName → CallName → Type 0
 IsAsked None call = ⊥
 IsAsked (Some name) call = name ≡ call
@@ -46,7 +46,8 @@ module _ {S : Type 0} (takes : S → Step → Option What → S → Type 0) (nex
     pub last : told ≡ last_told all
     pub ends : StandsStill new
 
-  -- It made some of them and goes on still: memory was refused to what it may print, of which each call asks for so much more; or it has made as many calls as can be counted.
+  -- It made some of them and still goes on: memory was refused to what it may print, of which each call asks for this much more; or it has made as many calls as can be
+  -- counted.
   pub record LeavesOff (each : ℕ) (old new : S) : Type 0 where
     pub all : List (Option What)
     pub turns : Turns all old new

@@ -1,4 +1,4 @@
--- A script over a store of its own is one life of it; and where the store is carried over, one life behind the other.
+-- A script over a store of its own is one life of it; and if the store is carried over, one life after another.
 use Rattle.std.specs.Prelude.{ℕ, List, [], ◌++◌, All, Option}
 use Rattle.cluster.specs.Steps.{Takes}
 use Rattle.cluster.specs.Worlds.{WorldView}
@@ -21,9 +21,9 @@ use Rattle.scripts.specs.Deeds.{Story, acts_of, done_for, more_lives, one_life, 
 
 -- Given which devices there are for the nodes of a store that is carried over
 module _ {D : Type 0} (gives : D → Type 0) (set : D → ℕ → Tear → Type 0) (state : D → State) (honest : D → Type 0) (moment : D → ℕ) (left_since : D → ℕ → List ℕ → Type 0) (any : D) where
-  -- A store with this id and so many shards was opened over devices that rested at a machine, where these were told, and this is its story. It is one life; and
-  -- where the store is carried over, that life ends before it is cared for. The cares leave its list as it is, and the devices of what it became rest at the
-  -- machine for which it then stands, all of whose list is kept. And it lives on from whatever machine its devices rest at.
+  -- A store with this id and this many shards was opened over devices that rested at a machine, with these told, and this is its story. It is one life; and if
+  -- the store is carried over, that life ends before it is cared for. The cares leave its list as it is, and the devices of what it became rest at the machine
+  -- for which it then stands, all of whose list is kept. And it lives on from whatever machine its devices rest at.
   abbrev pub Lives : (store shards : ℕ) → (NodeName → D × D) → Machine → List WriteId → WorldView D → Story (WorldView D) → WorldView D → Type 0
   Lives store shards devices m ids opened (one_life deeds) new = LivesActing set state honest moment left_since store shards devices m ids opened (acts_of deeds) (told_by deeds) new
   Lives store shards devices m ids opened (more_lives deeds move story) new = (life : LivesActing set state honest moment left_since store shards devices m ids opened (acts_of deeds) (told_by deeds) move.was)

@@ -1,4 +1,4 @@
--- What a line that asks for a write has done where it printed that memory was refused.
+-- What a line that asks for a write has done if it printed that memory was refused.
 use Rattle.std.specs.Prelude.{◌≡◌, ◌≤◌, ◌⊎◌, ℕ, List, length, Option, Some, None}
 use Rattle.names.specs.declared.call_name.CallName.{CallName}
 use Rattle.cluster.specs.Steps.{Takes}
@@ -26,16 +26,16 @@ module _ {S : Type 0} (takes : S → Step → Option What → S → Type 0) (nex
   abbrev pub EndsRefused : Step → S → S → Type 0
   EndsRefused first old new = (slot : ℕ) × (mid : S) × takes old first (Some (Began slot)) mid × Goes takes nexts slot None mid (Some (Refused NoMemory)) new
 
-  -- a flow began, made as many calls as can be counted, went on still, and was given up
+  -- a flow began, made as many calls as can be counted, still went on, and was given up
   abbrev pub IsGivenUp : Step → S → S → Type 0
   IsGivenUp first old new = (slot : ℕ) × (mid : S) × takes old first (Some (Began slot)) mid × (g : GivesUp takes nexts slot 0 mid new) × (most_calls ≤ length g.1.all)
 
-  -- nothing was done, or one of both
+  -- nothing was done, or one of these two
   abbrev pub IsRefusedMemory : Step → S → S → Type 0
   IsRefusedMemory first old new = (new ≡ old) ⊎ (EndsRefused first old new ⊎ IsGivenUp first old new)
 
 module _ {D : Type 0} (gives : D → Type 0) (set : D → ℕ → Tear → Type 0) (state : D → State) (honest : D → Type 0) (moment : D → ℕ) (left_since : D → ℕ → List ℕ → Type 0) where
-  -- A line that asked for a write, and printed this, did nothing; or its flow told so at its end; or it was given up behind as many calls as can be
+  -- A line that asked for a write, and printed this, did nothing; or its flow told so at its end; or it was given up after as many calls as can be
   -- counted. There is no other way.
   abbrev pub WritesRefusedMemory : Type 0
   WritesRefusedMemory = (id : ℕ) (w : Write) (old new : RunningView (WorldView D))

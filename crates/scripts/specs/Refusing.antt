@@ -1,4 +1,4 @@
--- What a line has done for which memory was refused, and which says no more than that.
+-- What a line for which memory was refused, and which says no more than that, has done.
 use Rattle.std.specs.Prelude.{◌≡◌, ◌<◌, ◌⊎◌, ℕ, List, length, slice_index, Option, Some, None, Result}
 use Rattle.std.specs.Global.{Vec}
 use Rattle.names.specs.declared.call_name.CallName.{CallName}
@@ -15,15 +15,15 @@ use Rattle.scripts.specs.Going.{LeavesOff}
 use Rattle.scripts.specs.Scripts.{Cancels, Ends, Handles, KeepsFlows, RunningView, Shows, Starts, slot_of}
 use Rattle.scripts.specs.Telling.{told_text}
 
--- so much room is made before a line is carried out
+-- this much room is made before a line is carried out
 abbrev pub line_room : ℕ
 line_room = 128
 
--- a text of more bytes than that room has; the text of a write is never so long
+-- a text of more bytes than that room has; the text of a write is never that long
 abbrev pub IsLong : List ℕ → Type 0
 IsLong text = line_room < length text
 
--- so much room for what became of one write in doubt
+-- this much room for what became of one write in doubt
 abbrev pub resolved_room : ℕ
 resolved_room = 80
 
@@ -36,7 +36,7 @@ module _ {S : Type 0} (takes : S → Step → Option What → S → Type 0) (nex
   abbrev pub GivesUp : ℕ → ℕ → S → S → Type 0
   GivesUp slot each old new = (mid : S) × LeavesOff takes nexts slot None each old mid × (Cancels takes nexts slot mid new ⊎ CancelsInPart slot mid new)
 
-  -- what a step told that was to begin a flow: its flow is given up; or all is done, and what is to be told of it is long
+  -- what a step that was to begin a flow told: its flow is given up; or all is done, and what is to be told of it is long
   abbrev pub EndsNot : ℕ → ℕ → Option What → S → S → Type 0
   EndsNot id each told old new = ((slot : ℕ) × (slot_of told ≡ Some slot) × GivesUp slot each old new)
       ⊎ ((text : List ℕ) × Ends takes nexts id told old text new × IsLong text)
@@ -62,8 +62,8 @@ module _ {S : Type 0} (takes : S → Step → Option What → S → Type 0) (nex
       ⊎ ((text : List ℕ) × Handles takes nexts id flow h old text new × IsLong text)
 
 module _ {S : Type 0} (takes : S → Step → Option What → S → Type 0) (nexts : S → ℕ → Option CallName → Type 0) (shows : S → ℕ → Result (Vec Version) Refusal → Type 0) where
-  -- What a command has done for which memory was refused. No write is told so: where one was to begin and end, none has begun, or its flow was given up
-  -- behind more calls than any makes; and none that has a name is told so.
+  -- What a command for which memory was refused has done. No write is told so: if one was to begin and end, none has begun, or its flow was given up
+  -- after more calls than any makes; and none that has a name is told so.
   abbrev pub CarriesOutNot : ℕ → Command → RunningView S → RunningView S → Type 0
   CarriesOutNot id Pass old new = ⊥
   CarriesOutNot id (Ask request) old new = ServesNot takes nexts id 0 (step.Start request) old.store new.store × KeepsFlows old new

@@ -20,7 +20,7 @@ module _ {D : Type 0} (state : D → State) (honest : D → Type 0) where
 
 -- Given which devices there are for new nodes
 module _ {D : Type 0} (gives : D → Type 0) (state : D → State) (honest : D → Type 0) (moment : D → ℕ) (left_since : D → ℕ → List ℕ → Type 0) where
-  -- A store was cared for, its coordinator's flush first, and carried over to new devices; one of so many shards with the same id was opened over them.
+  -- A store was cared for, its coordinator's flush first, and carried over to new devices; one of this many shards with the same id was opened over them.
   pub record IsMoved (old cared : WorldView D) (shards : ℕ) (new : WorldView D) : Type 0 where
     pub cared_for : IsCaredFor state honest moment left_since old cared
     pub given : List D
@@ -30,7 +30,7 @@ module _ {D : Type 0} (gives : D → Type 0) (state : D → State) (honest : D �
     pub carried : IsCarriedOver state honest cared shards given made
     pub opened : IsOpenedOver state honest moment left_since cared.store shards made new
 
-  -- Where a flow runs or a node is not up nothing is done, and that is told. Else the nodes are cared for, and then the store is another one, or refuses.
+  -- If a flow runs or a node is not up nothing is done, and that is told. Else the nodes are cared for, and then the store is another one, or refuses.
   abbrev pub Reshards : WorldView D → ℕ → Result (Unit {0}) Refusal → WorldView D → WorldView D → Type 0
   Reshards old shards (Ok done) cared new = IsReady state honest old × IsMoved old cared shards new
   Reshards old shards (Err e) cared new = IsReady state honest old ⊎ (IsUnready state honest old e × (cared ≡ old))

@@ -22,7 +22,7 @@ use Rattle.tuples.specs.declared.version.Version.{Version}
 abbrev pub joined : List (List ℕ) → List ℕ
 joined = flat_map (λ line. line ++ 10 ∷ [])
 
--- what stands behind the last line feed is a line, if there is anything
+-- what stands after the last line feed is a line, if there is anything
 abbrev pub last_line : List ℕ → List (List ℕ)
 last_line [] = []
 last_line (b ∷ bs) = (b ∷ bs) ∷ []
@@ -33,7 +33,7 @@ module _ {S : Type 0} (takes : S → Step → Option What → S → Type 0) (nex
   RepliesTo line a text b = ((length line ≤ max_line) × Answers takes nexts shows sets reshards shards_of line a text b)
       ⊎ (((max_line < length line) × (text ≡ refusal_line TooLarge) × (b ≡ a)) ⊎ ((text ≡ refusal_line NoMemory) × (b ≡ a)))
 
-  -- what these lines print, one behind the other
+  -- what these lines print, one after another
   abbrev pub Prints : ScriptView S → List (List ℕ) → List ℕ → ScriptView S → Type 0
   Prints a [] text b = (text ≡ []) × (b ≡ a)
   Prints a (line ∷ lines) text c = (b : ScriptView S) × (first rest : List ℕ) × RepliesTo line a first b × Prints b lines rest c × (text ≡ first ++ rest)
@@ -50,7 +50,7 @@ module _ {S : Type 0} (takes : S → Step → Option What → S → Type 0) (nex
     pub replies : RepliesTo line a text b
     pub written : HasBegun before after text
 
-  -- what stands behind the last line feed is answered, if there is anything, and the answer is written
+  -- what stands after the last line feed is answered, if there is anything, and the answer is written
   pub record EndsWith (last : List ℕ) (a b : ScriptView S) (before after : Option (List ℕ)) : Type 0 where
     pub text : List ℕ
     pub prints : Prints a (last_line last) text b
@@ -74,7 +74,7 @@ module _ {S : Type 0} (takes : S → Step → Option What → S → Type 0) (nex
     pub prints : Prints a (lines ++ last_line last) text b
     pub written : Appends out_before out_after text
 
-  -- Lines were read and answered, and a beginning of what they print was written; the last of them ends with the input, where that has ended.
+  -- Lines were read and answered, and a beginning of what they print was written; the last of them ends with the input, if that has ended.
   pub record Broke (in_before in_after out_before out_after : Option (List ℕ)) (a b : ScriptView S) : Type 0 where
     pub lines : List (List ℕ)
     pub rest : List ℕ

@@ -49,7 +49,7 @@ abbrev pub turned_text : ℕ → Option CallName → Option What → List ℕ
 turned_text id (Some call) told = next_line call
 turned_text id None told = told_text id told
 
--- what stands of each flow: this one's is gone where it has no next call
+-- what is kept of each flow: this one's is gone if it has no next call
 abbrev pub KeepsIf : {A : Type 0} → Option CallName → ℕ → List A → List A → Type 0
 KeepsIf (Some call) flow old new = new ≡ old
 KeepsIf None flow old new = new ≡ remove old flow
@@ -85,7 +85,7 @@ module _ {S : Type 0} (takes : S → Step → Option What → S → Type 0) (nex
   abbrev pub Starts : ℕ → List ℕ → Step → RunningView S → List ℕ → RunningView S → Type 0
   Starts id name first old text new = (told : Option What) × takes old.store first told new.store × Names id told name old text new
 
-  -- the flow of this number, in its slot, is told as it now is, and its name is free where it has ended
+  -- the flow of this number, in its slot, is told as it now is, and its name is free if it has ended
   abbrev pub Tells : ℕ → ℕ → Option What → RunningView S → List ℕ → RunningView S → Type 0
   Tells id flow told old text new = (next : Option CallName) × nexts new.store (slice_index old.slots flow) next × (text ≡ turned_text id next told)
       × KeepsIf next flow old.names new.names × KeepsIf next flow old.slots new.slots
@@ -111,7 +111,7 @@ abbrev pub Shows : {S : Type 0} → (S → ℕ → Result (Vec Version) Refusal 
 Shows shows shard s text = (result : Result (Vec Version) Refusal) × shows s shard result × (text ≡ rows_text result)
 
 module _ {S : Type 0} (takes : S → Step → Option What → S → Type 0) (nexts : S → ℕ → Option CallName → Type 0) (shows : S → ℕ → Result (Vec Version) Refusal → Type 0) (sets : S → NodeName → Bank → ℕ → Tear → S → Type 0) (reshards : S → ℕ → Result (Unit {0}) Refusal → S → S → Type 0) (shards_of : S → ℕ) where
-  -- the store is carried over to one of so many shards, or refuses, which is told
+  -- the store is carried over to one of this many shards, or refuses, which is told
   abbrev pub ReshardsTo : ℕ → S → List ℕ → S → Type 0
   ReshardsTo shards old text new = (result : Result (Unit {0}) Refusal) × Moves takes reshards shards old result new × (text ≡ resharded_text result)
 
@@ -127,7 +127,7 @@ module _ {S : Type 0} (takes : S → Step → Option What → S → Type 0) (nex
   CarriesOut id (Fail f) old text new = sets old.store f.node f.bank f.n f.tear new.store × (text ≡ set_line) × KeepsFlows old new
   CarriesOut id (Reshard shards) old text new = ReshardsTo shards old.store text new.store × KeepsFlows old new
 
--- the flow that a command names is one of so many
+-- the flow that a command names is one of this many
 abbrev pub IsAmong : Command → ℕ → Type 0
 IsAmong (Handle flow h) count = flow < count
 IsAmong c count = Unit {0}

@@ -16,7 +16,7 @@ use Rattle.scripts.specs.Stepping.{IsNext, SetsScript, ShowsRows, shards_in}
 abbrev pub begun : {S : Type 0} → ℕ → S → ScriptView S
 begun id store = record { id = id; running = record { store = store; names = []; slots = [] } }
 
--- a disk on which no call was made, and which none is to fail
+-- a disk on which no call was made, and which is not set to fail
 pub record IsEmptyDisk (d : SimDisk) : Type 0 where
   pub fresh : IsFresh [] (state_of d)
   pub only : (c : List ℕ) → left (state_of d) c → c ≡ []
@@ -25,7 +25,7 @@ pub record IsEmptyDisk (d : SimDisk) : Type 0 where
 
 -- Given which devices there are for the nodes of a store that is carried over
 module _ {D : Type 0} (gives : D → Type 0) (set : D → ℕ → Tear → Type 0) (state : D → State) (honest : D → Type 0) (moment : D → ℕ) (left_since : D → ℕ → List ℕ → Type 0) where
-  -- the store with this id and so many shards was opened over these devices, and a script ran over it to its end
+  -- the store with this id and this many shards was opened over these devices, and a script ran over it to its end
   pub record RanOver (store shards : ℕ) (devices : List D) (in_before in_after out_before out_after : Option (List ℕ)) : Type 0 where
     pub world : WorldView D
     pub count : length devices ≡ 2 * (shards + 1)

@@ -19,12 +19,12 @@ use Rattle.tuples.specs.declared.version.Version.{Version}
 abbrev pub shards_in : {D : Type 0} → WorldView D → ℕ
 shards_in w = w.shards
 
--- the next call of the flow in a slot; none where there is no flow
+-- the next call of the flow in a slot; none if there is no flow
 abbrev pub IsNext : {D : Type 0} → WorldView D → ℕ → Option CallName → Type 0
 IsNext w slot next = MatchOption (flow_at w.flows slot) (next ≡ None) (λ flow. next ≡ next_name_of flow)
 
 module _ {D : Type 0} (state : D → State) (honest : D → Type 0) where
-  -- what the shard of this number tells of its versions
+  -- what the shard of this number reports of its versions
   abbrev pub ShowsRows : WorldView D → ℕ → Result (Vec Version) Refusal → Type 0
   ShowsRows w shard result = MatchOption (node_at w.nodes (Shard shard)) (result ≡ Err BadRequest) (λ node. RowsOf state honest node result)
 

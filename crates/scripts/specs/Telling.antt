@@ -27,7 +27,7 @@ up_line = codes "up" ++ 10 ∷ []
 abbrev pub set_line : List ℕ
 set_line = codes "set" ++ 10 ∷ []
 
--- how a flow ended that was not refused: places are told by the tokens of the store with this id
+-- how a flow that was not refused ended: places are written as the tokens of the store with this id
 abbrev pub end_text : ℕ → Answer → List ℕ
 end_text id (ended.Wrote place) = told_line (codes "ok") id place
 end_text id (ended.Selected place sets) = told_line (codes "at") id place ++ row_lines 1 (map (λ set. set.items) sets.items)
@@ -39,7 +39,7 @@ end_text id ended.Done = done_line
 abbrev pub next_line : CallName → List ℕ
 next_line call = named_line (codes "next ") (call_text call)
 
--- what a step tells; of a flow that has begun its name is told, and not its slot
+-- what a step tells; a flow that has begun is told by its name, not its slot
 abbrev pub told_text : ℕ → Option What → List ℕ
 told_text id None = []
 told_text id (Some (Began slot)) = []

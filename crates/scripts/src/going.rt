@@ -28,7 +28,7 @@ fn goes_on(until: Option<CallName>, next: Option<CallName>) -> bool
     }
 }
 
-// Room for so much text, if there is to be any.
+// Room for this much text, if there is to be any.
 fn make_room(out: &mut Vec<u8>, room: usize) -> Result<(), AllocError>
     ensures same { out.new.items ≡ out.old.items }
     ensures capacity { vec_capacity out.old ≤ vec_capacity out.new }
@@ -40,8 +40,8 @@ fn make_room(out: &mut Vec<u8>, room: usize) -> Result<(), AllocError>
     out.reserve(room)
 }
 
-/// The flow in the slot makes its calls: to its end, or while the next is another than this one. What the last of them told. Each call is made once there
-/// is so much more room for the text of it all, if it is to have any.
+/// The flow in the slot makes its calls: to its end, or until this one is next. Returns what the last of them told. Each call is made once there is this
+/// much more room for all its text, if it is to have any.
 pub(crate) fn go<S: Store>(
     store: &mut S,
     slot: usize,

@@ -2,14 +2,14 @@
 //!
 //! Keeps: a flow that runs under a name has a slot of the store until it ends; a flow without a name ends within its line. Each line is answered once, in the
 //! order of the lines, and its answer is written before the next line is looked at.
-//! Never: looks into a node, makes a step but through the store's own, or takes room for the text of a write behind its last call. A run holds no more than
+//! Never: looks into a node, makes a step except through the store's own, or takes room for the text of a write after its last call. A run holds no more than
 //! one line and one block.
 //! Callers rely on: what a line prints is appended whole or not at all, and in the second case nothing was done. What a run writes is what the lines that were
-//! read print, or a beginning of it where a read or a write failed.
+//! read print, or a beginning of it if a read or a write failed.
 //!
 //! Start at `specs/Scripts.antt`, what each line does and prints, and then `script.rt`; at `specs/Runs.antt` and `runs.rt` for a whole script, at
 //! `over_disks.rt` for one over a store of its own, and at `specs/Lives.antt` and `life.rt` for what the program calls, with the headline's law. What owns a
-//! store is here, where how it is let go is proved.
+//! store is here, where it is proved how it is dropped.
 #![tactic(auto)]
 
 mod going;

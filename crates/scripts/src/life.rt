@@ -1,6 +1,6 @@
-// A script over disks in memory, as one life of a store, and one behind the other where it is carried over (`specs/Lives.antt`): what was done for its lines, step by
-// step and with what each told, is one run of the machine of whole writes from the empty log. Where the store is carried over to another number of shards that
-// run ends, and the devices of what it became rest at its one list and horizon, from where it lives on. `headline` has the law, and the program calls this.
+// A script over disks in memory, as one life of a store, or one after another if it is carried over (`specs/Lives.antt`): what was done for its lines, step by step
+// and with what each told, is one run of the machine of whole writes from the empty log. If the store is carried over to another number of shards, that run ends, and
+// the devices of what it became rest at its one list and horizon, from where it lives on. `headline` has the law, and the program calls this.
 ghost use Rattle.std.specs.Prelude.{◌≡◌, ◌≢◌, ◌≤◌, ◌⊎◌, All, List};
 ghost use Rattle.device.specs.Disk.{is_set_to_fail, left_since_of, moment_of, state_of};
 ghost use Rattle.device.specs.declared.sim_disk.SimDisk.{SimDisk as AnyDisk};
@@ -16,8 +16,8 @@ use std::alloc::Global;
 use std::io::{Read, Write};
 use tuples::Shards;
 
-/// Runs a script over a store of 1 to 64 shards on disks in memory. The status is 0 at the end of the script, and 1 where the reader or the writer failed,
-/// or where there is no memory for the disks.
+/// Runs a script over a store of 1 to 64 shards on disks in memory. The status is 0 at the end of the script, and 1 if the reader or the writer failed, or
+/// if there is no memory for the disks.
 pub fn sim<R: Read, W: Write>(
     alloc: Global,
     store: u64,

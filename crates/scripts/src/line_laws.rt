@@ -1,4 +1,4 @@
-// What a line has done that was refused memory, and what lines do that ask for no other number of shards: laws, each the clause of a function with an empty body.
+// What a line that was refused memory has done, and what lines do that ask for no other number of shards: laws, each the clause of a function with an empty body.
 ghost use Rattle.scripts.specs.RefusedWrites.{WritesRefusedMemory};
 ghost use Rattle.scripts.specs.Staying.{StayingIsOneLife};
 

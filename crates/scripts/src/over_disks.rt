@@ -13,7 +13,7 @@ use std::alloc::{AllocError, Global};
 use std::io::{self, Read, Write};
 use tuples::Shards;
 
-/// The status where the script broke off, or there is no memory for the nodes or for their disks.
+/// The status if the script broke off, or there is no memory for the nodes or for their disks.
 pub(crate) const BROKE: u8 = 1;
 
 // Opens the store over its devices.
@@ -48,9 +48,9 @@ fn run_new<S: Store, R: Read, W: Write>(
     run(alloc, &mut script, reader, writer)
 }
 
-/// Opens the store of 1 to 64 shards over its devices, as `reopen` does, and runs a script over it. The status is 0 at the end of the script, and 1 where the
-/// reader or the writer failed, or where there is no memory for the nodes. A node whose opening is refused answers that to each line that asks it. Where the
-/// store is carried over, the devices of the new nodes are those that are given.
+/// Opens the store of 1 to 64 shards over its devices, as `reopen` does, and runs a script over it. The status is 0 at the end of the script, and 1 if the
+/// reader or the writer failed, or if there is no memory for the nodes. A node whose opening is refused answers that to each line that asks it. If the store
+/// is carried over, the new nodes' devices are those that are given.
 pub fn run_over<D: Device, P: Supply<D>, R: Read, W: Write>(
     alloc: Global,
     store: u64,

@@ -25,7 +25,7 @@ fn print_resolved(id: u64, resolved: Resolved, out: &mut Vec<u8>) -> Result<(), 
     printed.write_to(id, out)
 }
 
-// Each of them; a part of them where there is no room for all.
+// Each of them; a part of them if there is no room for all.
 fn print_each(id: u64, found: &[Resolved], out: &mut Vec<u8>) -> Result<(), AllocError>
     ensures ok { OnOk result (out.new.items ≡ out.old.items ++ flat_map resolved_text found.now) }
     ensures err { OnErr result ((part : List ℕ) × (out.new.items ≡ out.old.items ++ part)) }
@@ -83,7 +83,7 @@ fn print_end(id: u64, end: cluster::Answer, out: &mut Vec<u8>) -> Result<(), All
     Printed::Answer(&answer).write_to(id, out)
 }
 
-/// Prints what a step told, at the store with this id. It is refused only where there is no room for all of it.
+/// Prints what a step told, at the store with this id. Refused only if there is no room for all of it.
 pub(crate) fn print_told(id: u64, told: Option<What>, out: &mut Vec<u8>) -> Result<(), AllocError>
     ensures ok { OnOk result (out.new.items ≡ out.old.items ++ told_text id told) }
     ensures err { OnErr result (out.new.items ≡ out.old.items) }
@@ -99,7 +99,7 @@ pub(crate) fn print_told(id: u64, told: Option<What>, out: &mut Vec<u8>) -> Resu
     }
 }
 
-/// Prints that a store was carried over, or why it was not. It is refused only where there is no room for all of it.
+/// Prints that a store was carried over, or why it was not. Refused only if there is no room for all of it.
 pub(crate) fn print_resharded(
     id: u64,
     told: Result<(), Refusal>,

@@ -1,4 +1,4 @@
-// What is printed where a line is too long, or memory is refused: made first, so that it needs no memory then.
+// What is printed if a line is too long, or memory is refused: made first, so that it needs no memory then.
 ghost use Rattle.std.specs.Prelude.{◌≡◌, IfOk};
 ghost use Rattle.printed.specs.Texts.{refusal_line};
 ghost use Rattle.refusal.specs.declared.refusal.Refusal.TheVariants.{NoMemory, TooLarge};
@@ -29,7 +29,7 @@ impl Refusals {
     }
 }
 
-// It tells no place, so it is the same at every store.
+// It names no place, so it is the same at every store.
 fn text_of(alloc: Global, refusal: Refusal) -> Result<Vec<u8>, AllocError>
     ensures { IfOk result (λ text. text.items ≡ refusal_line refusal) }
 {

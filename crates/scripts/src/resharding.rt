@@ -22,7 +22,7 @@ pub(crate) fn is_ready<D: Device>(world: &World<D>) -> Result<(), Refusal>
     are_up(world)
 }
 
-/// Another store of so many shards, which has what this one has, over devices that are given.
+/// Another store of this many shards, which has what this one has, over given devices.
 pub(crate) fn carry<D: Device, P: Supply<D>>(
     alloc: Global,
     world: &mut World<D>,

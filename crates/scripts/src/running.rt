@@ -247,7 +247,7 @@ impl<S: Store> Running<S> {
         Command::parse(alloc, line, id, self.store.shards(), &self.names)
     }
 
-    /// Carries the command out at the store with this id, and prints what it tells. Where memory is refused nothing is printed, and no write is begun and ended.
+    /// Carries the command out at the store with this id, and prints what it tells. If memory is refused nothing is printed, and no write is begun and ended.
     pub(crate) fn carry_out(
         &mut self,
         id: u64,

@@ -12,7 +12,7 @@ use std::alloc::Global;
 use std::io::{self, ErrorKind, Read, Write};
 
 /// Carries out the lines of the input, each as soon as those before it are answered. A line has at most 262,144 bytes without its line feed, and a
-/// longer one is refused; what stands behind the last line feed is a line too, if there is anything. An error ends the run: of a read, of a write, or
+/// longer one is refused; what stands after the last line feed is a line too, if there is anything. An error ends the run: of a read, of a write, or
 /// of memory for the first block.
 pub fn run<S: Store, R: Read, W: Write>(
     alloc: Global,
@@ -49,7 +49,7 @@ fn run_in<S: Store, R: Read, W: Write>(
     Err(ErrorKind::FileTooLarge.into())
 }
 
-// Answers what stands behind the last line feed, if there is anything.
+// Answers what stands after the last line feed, if there is anything.
 fn finish<S: Store, W: Write>(
     script: &mut Script<S>,
     output: &mut W,

@@ -35,7 +35,7 @@ impl<S: Store> Model for Script<S> {
 }
 
 impl<S: Store> Script<S> {
-    /// Over a store with this id, in which no flow runs.
+    /// A script over a store with this id, in which no flow runs.
     pub fn new(alloc: Global, id: u64, store: S) -> Script<S>
         ensures { result ≡ record { id = id; running = record { store = store; names = []; slots = [] } } }
     {
@@ -46,7 +46,7 @@ impl<S: Store> Script<S> {
         }
     }
 
-    /// Carries out one line, and appends what it prints. An `Err` is for want of memory, and then nothing was done.
+    /// Carries out one line, and appends what it prints. An `Err` is for lack of memory, and then nothing was done.
     pub fn line(&mut self, line: &[u8], out: &mut Vec<u8>) -> Result<(), AllocError>
         ensures ok { OnOk result ((text : List ℕ) × Answers S.takes S.nexts S.shows S.sets S.reshards S.shards_of line.now self.old text self.new × (out.new.items ≡ out.old.items ++ text)) }
         ensures err { OnErr result ((self.new ≡ self.old) × (out.new.items ≡ out.old.items)) }
@@ -76,7 +76,7 @@ impl<S: Store> Script<S> {
         self.running.carry_out(self.id, command, out)
     }
 
-    // Carries the command out, or tells that memory was refused.
+    // Carries the command out, or reports that memory was refused.
     fn try_out(&mut self, command: Command, out: &mut Vec<u8>)
         requires among { IsAmong command (length self.old.running.names) }
         requires room { vec_len out.old + line_room ≤ vec_capacity out.old }
@@ -100,12 +100,12 @@ impl<S: Store> Script<S> {
     }
 }
 
-// Prints a refusal, for which the room is there.
+// Prints a refusal; there is room for it.
 fn refuse(refusal: Refusal, out: &mut Vec<u8>)
     requires { vec_len out.old + line_room ≤ vec_capacity out.old }
     ensures { out.new.items ≡ out.old.items ++ refusal_line refusal }
 {
-    // It tells no place, so it is the same at every store.
+    // It names no place, so it is the same at every store.
     match Printed::Refused(refusal).write_to(0, out) {
         Ok(()) => {}
         Err(_) => unreachable!(),

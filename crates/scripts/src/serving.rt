@@ -74,8 +74,8 @@ fn end<S: Store>(
     }
 }
 
-/// The step begins a flow, which makes its calls to its end, each once there is so much more room; what it tells is printed. An `Err` is for want of memory:
-/// none has begun, or it was cancelled, or what it told is longer than the room for it.
+/// The step begins a flow, which makes its calls to its end, each once there is this much more room; what it tells is printed. An `Err` is for lack of
+/// memory: none has begun, or it was cancelled, or what it told is longer than the room for it.
 pub(crate) fn serve<S: Store>(
     store: &mut S,
     id: u64,

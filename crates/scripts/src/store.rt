@@ -21,7 +21,7 @@ use tuples::{Refusal, Shards, Version};
 
 /// A store that takes steps, one at a time.
 pub trait Store: Drop {
-    /// It may take this step, which tells this, and is then that.
+    /// It may take this step, which tells this, and becomes that.
     ghost takes: { Self → AnyStep → Option AnyWhat → Self → Type 0 };
 
     /// The flow in a slot may have this next call, or none.
@@ -33,13 +33,13 @@ pub trait Store: Drop {
     /// It may be that once this is set on a device of this node.
     ghost sets: { Self → AnyNode → AnyBank → ℕ → AnyTear → Self → Type 0 };
 
-    /// Where it was this, and is to have so many shards, it may be told so once it was cared for and was that, and be this.
+    /// If it was this, and is to have this many shards, it may be cared for and be that, answer so, and then be this.
     ghost reshards: { Self → ℕ → Result (Unit {0}) AnyRefusal → Self → Self → Type 0 };
 
     /// How many shards it has.
     ghost shards_of: { Self → ℕ };
 
-    /// Takes the step. An `Err` is for want of memory, which only a step takes that begins a flow.
+    /// Takes the step. An `Err` is for lack of memory; only a step that begins a flow takes any.
     fn take(&mut self, step: Step) -> Result<Option<What>, AllocError>
         ensures ok { IfOk result (λ told. takes self.old step told self.new) }
         ensures err { OnErr result (self.new ≡ self.old) }
@@ -57,7 +57,7 @@ pub trait Store: Drop {
     fn shards(&self) -> Shards
         ensures { result ≡ shards_of self.now };
 
-    /// It is cared for, step by step, and carried over to so many shards. An `Err` says why it was not.
+    /// It is cared for, step by step, and carried over to this many shards. An `Err` says why it was not.
     fn reshard(&mut self, shards: Shards) -> Result<(), Refusal>
         ensures { Moves takes reshards shards self.old result self.new };
 }

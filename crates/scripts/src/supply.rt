@@ -11,7 +11,7 @@ pub trait Supply<D: Device>: Drop {
     /// It may give this one.
     ghost gives: { D → Type 0 };
 
-    /// An `Err` is for want of memory, or of another device.
+    /// An `Err` is for lack of memory, or of another device.
     fn give(&mut self, alloc: Global) -> Result<D, AllocError>
         ensures { IfOk result gives };
 }
@@ -28,7 +28,7 @@ impl Supply<SimDisk> for InMemory {
     }
 }
 
-/// None: where a store over such devices is to be carried over that is refused, as for want of memory.
+/// None: a store over such devices can't be carried over, which is refused as for lack of memory.
 #[derive(Drop)]
 pub struct NoDevices;
 
@@ -40,7 +40,7 @@ impl<D: Device> Supply<D> for NoDevices {
     }
 }
 
-/// Two devices for each node of a store of so many shards.
+/// Two devices for each node of a store of this many shards.
 pub fn devices<D: Device, P: Supply<D>>(
     alloc: Global,
     supply: &mut P,

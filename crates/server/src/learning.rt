@@ -34,8 +34,8 @@ fn learn<D: Device, B: Room, G: Gate, R: Wait>(
     shard: u8,
 ) -> Result<(), Fault>
     requires there { shard < B.shards }
-    requires found { B.rests → HasFound B.first B.low first.old }
-    ensures found { B.rests → HasFound B.first B.low first.new }
+    requires found { B.rests → HasFound B.first B.low first.old.pass }
+    ensures found { B.rests → HasFound B.first B.low first.new.pass }
 {
     let end = store.care(rt, alloc, first, &mut Told::new(), Care::Learn(shard));
     match refused_in(end) {
@@ -54,8 +54,8 @@ pub(crate) fn learn_all<D: Device, B: Room, G: Gate, R: Wait>(
     store: &Store<D, B, G>,
     first: &mut Caller<B>,
 ) -> Result<(), Fault>
-    requires found { B.rests → HasFound B.first B.low first.old }
-    ensures found { B.rests → HasFound B.first B.low first.new }
+    requires found { B.rests → HasFound B.first B.low first.old.pass }
+    ensures found { B.rests → HasFound B.first B.low first.new.pass }
 {
     for shard in 0..store.shards().count() {
         learn(rt, alloc, store, first, shard)?;
@@ -73,8 +73,8 @@ fn is_refused<D: Device, B: Room, G: Gate, R: Wait>(
     refusal: Refusal,
 ) -> bool
     requires there { shard < B.shards }
-    requires found { B.rests → HasFound B.first B.low first.old }
-    ensures found { B.rests → HasFound B.first B.low first.new }
+    requires found { B.rests → HasFound B.first B.low first.old.pass }
+    ensures found { B.rests → HasFound B.first B.low first.new.pass }
 {
     let flush = Care::Flush(NodeName::Shard(shard));
     let end = store.care(rt, alloc, first, &mut Told::new(), flush);
@@ -89,8 +89,8 @@ pub(crate) fn blamed<D: Device, B: Room, G: Gate, R: Wait>(
     first: &mut Caller<B>,
     refusal: Refusal,
 ) -> Fault
-    requires found { B.rests → HasFound B.first B.low first.old }
-    ensures found { B.rests → HasFound B.first B.low first.new }
+    requires found { B.rests → HasFound B.first B.low first.old.pass }
+    ensures found { B.rests → HasFound B.first B.low first.new.pass }
 {
     for shard in 0..store.shards().count() {
         if is_refused(rt, alloc, store, first, shard, refusal) {

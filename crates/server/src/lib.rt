@@ -29,6 +29,7 @@ mod readiness;
 mod reporter;
 mod running;
 mod session;
+mod share;
 mod stamp;
 mod start;
 
@@ -36,3 +37,4 @@ pub use found::Found;
 pub use opening::{serve, serve_over};
 pub use progress::Progress;
 pub use session::StoreSession;
+pub use share::Share;

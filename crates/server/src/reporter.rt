@@ -1,6 +1,7 @@
 // Lines on standard error while something keeps a server from serving.
 use crate::down::DownNodes;
 use crate::hanging::Hanging;
+use crate::share::{Share, tell_passed};
 use crate::stamp::Stamp;
 use files::Pulse;
 use serving::Report;
@@ -49,15 +50,18 @@ pub(crate) struct Reporter<'a, R: Eprint> {
     // as whoever found it told it
     told_down: Minutely,
     hanging: Hanging<'a>,
+    share: &'a Share,
+    has_told_passed: bool,
 }
 
 impl<'a, R: Eprint> Reporter<'a, R> {
-    /// Nothing was told so far. It looks at these files, two for each node.
+    /// Nothing was told so far. It looks at these files, two for each node, and whether a request passed the share of its worker.
     pub(crate) fn new(
         rt: &'a R,
         down: &'a DownNodes,
         ends_when_down: bool,
         files: &'a [Arc<Pulse, Global>],
+        share: &'a Share,
     ) -> Reporter<'a, R> {
         Reporter {
             rt,
@@ -67,6 +71,8 @@ impl<'a, R: Eprint> Reporter<'a, R> {
             refused: Minutely::new(),
             told_down: Minutely::new(),
             hanging: Hanging::new(files),
+            share,
+            has_told_passed: false,
         }
     }
 }
@@ -92,6 +98,10 @@ impl<'a, R: Eprint + Clock> Report for Reporter<'a, R> {
 
     fn tick(&mut self) -> io::Result<()> {
         self.hanging.look(self.rt);
+        if !self.has_told_passed && self.share.is_passed() {
+            self.has_told_passed = true;
+            tell_passed(self.rt, self.share);
+        }
         if !self.down.are_any() {
             return Ok(());
         }

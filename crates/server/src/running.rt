@@ -1,7 +1,7 @@
 // An open store is looked over, and served while it is tended.
 ghost use Rattle.locked.specs.Looking.{AreOfOneStore};
 ghost use Rattle.locked.specs.Opening.{HasFound};
-ghost use Rattle.std.specs.Prelude.{◌≡◌, ◌⊎◌, ◌≤◌, None, Some, All, IfErr, IfOk, length, vec_len};
+ghost use Rattle.std.specs.Prelude.{◌≡◌, ◌⊎◌, ◌≤◌, ◌*◌, None, Some, All, IfErr, IfOk, length, vec_len};
 
 use crate::down::{DownNodes, NodeLines};
 use crate::fault::{Fault, tell};
@@ -11,12 +11,13 @@ use crate::progress::Progress;
 use crate::readiness::Readiness;
 use crate::reporter::Reporter;
 use crate::session::StoreSession;
+use crate::share::{MIB, Share};
 use crate::start::{Start, tell_start};
 use calls::Told;
 use crossbeam_utils::sync::Parker;
 use device::Device;
 use files::Pulse;
-use locked::{Caller, Gate, LookedOver, Store};
+use locked::{Caller, Gate, LookedOver, Store, Window};
 use serving::{Begun, Serving, serve_on};
 use settings::ServeSettings;
 use sides::Room;
@@ -43,7 +44,7 @@ pub(crate) fn serve_store<D: Device + Send + Sync, B: Room + Send + Sync, G: Gat
 ) -> u8
 where
     R: Runtime + Net<Listener = TcpListener, Stream = TcpStream> + Threads + Wait + Sync,
-    requires found { B.rests → HasFound B.first B.low first.old }
+    requires found { B.rests → HasFound B.first B.low first.old.pass }
     ensures { (result ≡ 0) ⊎ (result ≡ 1) }
 {
     match start(rt, alloc, store, first, settings) {
@@ -81,8 +82,8 @@ fn start<D: Device, B: Room, G: Gate, R>(
 ) -> Result<Start, Fault>
 where
     R: Net<Listener = TcpListener, Stream = TcpStream> + Wait,
-    requires found { B.rests → HasFound B.first B.low first.old }
-    ensures found { B.rests → HasFound B.first B.low first.new }
+    requires found { B.rests → HasFound B.first B.low first.old.pass }
+    ensures found { B.rests → HasFound B.first B.low first.new.pass }
     ensures reaches { IfOk result (λ start. B.rests → (B.low ≤ start.found.horizon) × (length B.first ≤ start.found.latest)) }
     ensures one_store { IfOk result (λ start. AreOfOneStore start.found.horizon start.found.latest start.found.learned.items) }
     ensures each_shard { IfOk result (λ start. vec_len start.found.learned ≡ B.shards) }
@@ -102,8 +103,8 @@ fn looked_over<D: Device, B: Room, G: Gate, R: Wait>(
     store: &Store<D, B, G>,
     first: &mut Caller<B>,
 ) -> Result<LookedOver, Fault>
-    requires found { B.rests → HasFound B.first B.low first.old }
-    ensures found { B.rests → HasFound B.first B.low first.new }
+    requires found { B.rests → HasFound B.first B.low first.old.pass }
+    ensures found { B.rests → HasFound B.first B.low first.new.pass }
     ensures reaches { IfOk result (λ found. B.rests → (B.low ≤ found.horizon) × (length B.first ≤ found.latest)) }
     ensures one_store { IfOk result (λ found. AreOfOneStore found.horizon found.latest found.learned.items) }
     ensures each_shard { IfOk result (λ found. vec_len found.learned ≡ B.shards) }
@@ -135,9 +136,9 @@ fn later_caller<D: Device, B: Room, G: Gate, R: Wait>(
     store: &Store<D, B, G>,
     first: &mut Caller<B>,
 ) -> Caller<B>
-    requires found { B.rests → HasFound B.first B.low first.old }
-    ensures found { B.rests → HasFound B.first B.low first.new }
-    ensures told { B.rests → HasFound B.first B.low result }
+    requires found { B.rests → HasFound B.first B.low first.old.pass }
+    ensures found { B.rests → HasFound B.first B.low first.new.pass }
+    ensures told { B.rests → HasFound B.first B.low result.pass }
 {
     let mut caller = store.session(rt);
     store.tell(first, &mut caller);
@@ -151,8 +152,9 @@ fn sessions<'a, D: Device, B: Room, G: Gate, R: Wait>(
     store: &'a Store<D, B, G>,
     first: &mut Caller<B>,
     workers: u8,
+    share: &'a Share,
 ) -> Result<Vec<StoreSession<'a, D, B, G, R>>, AllocError>
-    requires found { B.rests → HasFound B.first B.low first.old }
+    requires found { B.rests → HasFound B.first B.low first.old.pass }
     ensures count { IfOk result (λ made. vec_len made ≡ workers) }
     ensures told { IfOk result (λ made. All (λ session. B.rests → HasFound B.first B.low session) made.items) }
 {
@@ -160,7 +162,7 @@ fn sessions<'a, D: Device, B: Room, G: Gate, R: Wait>(
     for _ in 0..workers {
         sessions.reserve(1)?;
         let caller = later_caller(rt, store, first);
-        sessions.push_reserved(StoreSession::new(rt, alloc, store, caller));
+        sessions.push_reserved(StoreSession::new(rt, alloc, store, caller, share));
     }
     Ok(sessions)
 }
@@ -183,6 +185,16 @@ fn serving_of(settings: &ServeSettings) -> Serving
     }
 }
 
+// The window of the coordinator's decisions.
+fn window_of(settings: &ServeSettings) -> Window
+    ensures { result ≡ record { places = settings.now.window; bytes = settings.now.window_mib * 1048576 } }
+{
+    Window {
+        places: settings.window,
+        bytes: settings.window_mib * MIB,
+    }
+}
+
 // Serves those who connect, while another thread tends the store. Where a thread can't be made the server ends, and has not said that it is ready.
 fn serve_at<D: Device + Send + Sync, B: Room + Send + Sync, G: Gate + Sync, R>(
     rt: &R,
@@ -196,13 +208,15 @@ fn serve_at<D: Device + Send + Sync, B: Room + Send + Sync, G: Gate + Sync, R>(
 ) -> io::Result<()>
 where
     R: Runtime + Threads + Wait + Clock + Sync,
-    requires found { B.rests → HasFound B.first B.low first.old }
+    requires found { B.rests → HasFound B.first B.low first.old.pass }
     requires one_store { AreOfOneStore start.now.found.horizon start.now.found.latest start.now.found.learned.items }
 {
-    let sessions = sessions(rt, alloc, store, first, settings.workers)?;
+    let share = Share::of(settings);
+    let share = &share;
+    let sessions = sessions(rt, alloc, store, first, settings.workers, share)?;
     let listener = &start.listener;
     let serving = serving_of(settings);
-    let window = settings.window;
+    let window = window_of(settings);
     let mut keeper = store.session(rt);
     let down = DownNodes::new();
     let down = &down;
@@ -211,7 +225,7 @@ where
         nodes: down,
         short: DownNodes::new(),
     };
-    let mut reporter = Reporter::new(rt, down, settings.end_when_down, &pulses);
+    let mut reporter = Reporter::new(rt, down, settings.end_when_down, &pulses, share);
     let address = listener.local_addr().ok();
     let readiness = Readiness::new(rt, u64::from(settings.workers) + 1, address);
     let readiness = &readiness;

@@ -2,6 +2,7 @@
 ghost use Rattle.std.specs.Prelude.{◌≡◌};
 ghost use Rattle.server.specs.Answered.{Answered};
 
+use crate::share::Share;
 use answer_flow::{CheckEnd, ReadEnd, WatchEnd};
 use answers::{Events, Membership, Rows, Written};
 use calls::Told;
@@ -15,13 +16,15 @@ use std::marker::Model;
 use std::sync::Wait;
 use tuples::{Freshness, MAX_WATCHED, Namespace, Refusal, Tuple, Tupleset, Userset, Write};
 
-/// Answers the requests of one session after another over a store, for one caller, who goes on knowing what was seen.
+/// Answers the requests of one session after another over a store, for one caller, who goes on knowing what was seen. What a read or a check reads takes no
+/// more than the share, else it is refused with `NoMemory`.
 #[derive(Drop)]
 pub struct StoreSession<'a, D: Device, B: Room, G: Gate, R: Wait> {
     rt: &'a R,
     alloc: Global,
     store: &'a Store<D, B, G>,
     caller: Caller<B>,
+    share: &'a Share,
 }
 
 impl<'a, D: Device, B: Room, G: Gate, R: Wait> Model for StoreSession<'a, D, B, G, R> {
@@ -30,25 +33,34 @@ impl<'a, D: Device, B: Room, G: Gate, R: Wait> Model for StoreSession<'a, D, B, 
 
     ghost Value = { Known AnyEntry };
 
-    ghost view = { λ s. s.caller };
+    ghost view = { λ s. s.caller.pass };
 }
 
 impl<'a, D: Device, B: Room, G: Gate, R: Wait> StoreSession<'a, D, B, G, R> {
-    /// For this caller, who has seen what it has seen.
+    /// For this caller, who has seen what it has seen, within this share.
     pub fn new(
         rt: &'a R,
         alloc: Global,
         store: &'a Store<D, B, G>,
         caller: Caller<B>,
+        share: &'a Share,
     ) -> StoreSession<'a, D, B, G, R>
-        ensures { result ≡ caller }
+        ensures { result ≡ caller.pass }
     {
         StoreSession {
             rt,
             alloc,
             store,
             caller,
+            share,
         }
+    }
+}
+
+// Its reads were refused since it would have taken more than the share, if they were.
+fn note_spent(share: &Share, told: &Told) {
+    if told.is_spent() {
+        share.note();
     }
 }
 
@@ -68,7 +80,7 @@ impl<'a, D: Device, B: Room, G: Gate, R: Wait> Answers for StoreSession<'a, D, B
     }
 
     fn read(&mut self, freshness: Freshness, sets: Vec<Tupleset>) -> Result<Rows, Refusal> {
-        let mut told = Told::new();
+        let mut told = Told::within(self.share.bytes());
         let end = self.store.read(
             self.rt,
             self.alloc,
@@ -77,6 +89,7 @@ impl<'a, D: Device, B: Room, G: Gate, R: Wait> Answers for StoreSession<'a, D, B
             freshness,
             sets,
         );
+        note_spent(self.share, &told);
         match end {
             ReadEnd::Answered(place, sets) => return Ok(Rows { sets, place }),
             ReadEnd::Refused(refusal) => return Err(refusal),
@@ -84,7 +97,7 @@ impl<'a, D: Device, B: Room, G: Gate, R: Wait> Answers for StoreSession<'a, D, B
     }
 
     fn check(&mut self, freshness: Freshness, tuple: Tuple) -> Result<Membership, Refusal> {
-        let mut told = Told::new();
+        let mut told = Told::within(self.share.bytes());
         let Tuple {
             object,
             relation,
@@ -100,6 +113,7 @@ impl<'a, D: Device, B: Room, G: Gate, R: Wait> Answers for StoreSession<'a, D, B
             &userset,
             user,
         );
+        note_spent(self.share, &told);
         match end {
             CheckEnd::Answered(place, is_member) => Ok(Membership { is_member, place }),
             CheckEnd::Refused(refusal) => Err(refusal),

@@ -33,13 +33,31 @@ impl fmt::Display for Places {
     }
 }
 
+// How much memory the server keeps for answers, and how far back it can be read.
+#[derive(Clone, Copy)]
+struct Budgets {
+    answer_mib: u64,
+    window: u64,
+    window_mib: u64,
+}
+
+impl fmt::Display for Budgets {
+    fn fmt<W: fmt::Write>(&self, f: &mut fmt::Formatter<W>) -> fmt::Result {
+        let (answers, places, window) = (self.answer_mib, self.window, self.window_mib);
+        write!(
+            f,
+            "answers up to {answers} MiB, window up to {places} places or {window} MiB"
+        )
+    }
+}
+
 // Where the clock can't be read, it is not known.
 fn since(rt: &impl Clock, began: Option<Instant>) -> Option<Duration> {
     began?.elapsed(rt).ok()
 }
 
 /// A line on standard error for who keeps the server running: the folder, the shards, the places that can be read or that the store is new, how long the
-/// openings took, and how many bytes they read from how many files. Nothing depends on it, so that it can't be printed keeps nobody from being served.
+/// openings took, how many bytes they read from how many files, and the budgets of memory. Nothing depends on it, so that it can't be printed keeps nobody from being served.
 pub(crate) fn tell_start(
     rt: &(impl Eprint + Clock),
     settings: &ServeSettings,
@@ -56,17 +74,22 @@ pub(crate) fn tell_start(
         horizon: start.found.horizon,
         latest: start.found.latest,
     };
+    let budgets = Budgets {
+        answer_mib: settings.answer_mib,
+        window: settings.window,
+        window_mib: settings.window_mib,
+    };
     let stamp = Stamp::now(rt);
     let _ = match since(rt, began) {
         Some(took) => {
             let (seconds, milliseconds) = (took.as_secs(), took.subsec_millis());
             eprintln!(rt;
-                "zanstore: {stamp}{dir}: {shards} shards, {places}, opened in {seconds}.{milliseconds:03} s from {bytes} bytes of {files} files"
+                "zanstore: {stamp}{dir}: {shards} shards, {places}, opened in {seconds}.{milliseconds:03} s from {bytes} bytes of {files} files; {budgets}"
             )
         }
         None => {
             eprintln!(rt;
-                "zanstore: {stamp}{dir}: {shards} shards, {places}, opened from {bytes} bytes of {files} files"
+                "zanstore: {stamp}{dir}: {shards} shards, {places}, opened from {bytes} bytes of {files} files; {budgets}"
             )
         }
     };

@@ -1,1 +1,4 @@
 pub mod Sessions
+pub mod Bounds
+pub mod Unsent
+pub mod Machines

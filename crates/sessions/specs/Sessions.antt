@@ -82,14 +82,3 @@ pub record Broke {A : Type 0} (store : ℕ) (gives : Giving A) (in_before in_aft
   pub session : Session store gives a lines text b
   pub of_end : (end ≡ []) ⊎ (IsAtEnd in_after × HasNoFeed rest × (end ≡ end_text rest))
   pub written : HasBegun out_before out_after (text ++ end)
-
--- a session between two lines: these bytes are not taken yet, and this text waits to be written
-pub record Serving {A : Type 0} (store : ℕ) (gives : Giving A) (in_before in_now out_before out_now : Option (List ℕ)) (a now : A) (unread waiting : List ℕ) : Type 0 where
-  pub lines : List (List ℕ)
-  pub text : List ℕ
-  pub sent : List ℕ
-  pub read : Consumes in_before in_now (joined lines ++ unread)
-  pub ended : All HasNoFeed lines
-  pub session : Session store gives a lines text now
-  pub written : Appends out_before out_now sent
-  pub whole : text ≡ sent ++ waiting

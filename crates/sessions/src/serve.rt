@@ -1,20 +1,22 @@
-// A session from its first line to its last.
-ghost use Rattle.std.specs.Prelude.{◌++◌, List, ℕ, OnOk, OnErr};
-ghost use Rattle.std.specs.Io.KnownBytes.{Appends};
-ghost use Rattle.line_io.specs.Blocks.{unread};
-ghost use Rattle.line_io.specs.Lines.{Holds};
-ghost use Rattle.line_io.specs.Outputs.{HasBegun, MayWait, Sends};
-ghost use Rattle.sessions.specs.Sessions.{Broke, Served, end_text};
+// A session over a reader and a writer, from its first line to its last.
+ghost use Rattle.std.specs.Prelude.{◌≡◌, [], IfOk, OnOk, OnErr};
+ghost use Rattle.std.specs.Io.KnownBytes.{Appends, Keeps};
+ghost use Rattle.line_io.specs.Blocks.{Refills};
+ghost use Rattle.line_io.specs.Outputs.{HasBegun};
+ghost use Rattle.sessions.specs.Sessions.{Broke, Served};
+ghost use Rattle.sessions.specs.Machines.{left_of, phase_after};
+ghost use Rattle.sessions.specs.Unsent.{unsent};
 
 use crate::asking::Answers;
-use crate::reply::{reply_to, write_reply};
-use line_io::{BLOCK, Block, Ending, Line, take_line, write_out};
+use crate::machine::{Machine, Phase, Turn};
+use crate::waiting::Waiting;
+use line_io::write_all;
 use std::alloc::Global;
 use std::io::{self, ErrorKind, Read, Write};
 
 /// Answers the lines of the input at the store with this id, each as soon as it stands alone in what was read, until the input
 /// ends. A line has at most 262,144 bytes without its line feed. An error ends the session: of a read, of a write, or of memory for
-/// the text of an answer.
+/// a block or the text of an answer.
 pub fn serve_stream<R: Read, W: Write, A: Answers>(
     alloc: Global,
     store: u64,
@@ -25,61 +27,52 @@ pub fn serve_stream<R: Read, W: Write, A: Answers>(
     ensures ok { OnOk result (Served store A.gives (R.remaining input.old) (R.remaining input.new) (W.contents output.old) (W.contents output.new) answers.old answers.new) }
     ensures err { OnErr result (Broke store A.gives (R.remaining input.old) (R.remaining input.new) (W.contents output.old) (W.contents output.new) answers.old answers.new) }
 {
-    let mut block = Block::new(alloc)?;
-    let mut line = Line::new(alloc);
-    let mut waiting = Vec::with_capacity(alloc, 2 * BLOCK)?;
+    let mut machine = Machine::new(alloc);
+    machine.waiting.make_room()?;
     for _ in 0..u64::MAX {
-        write_ready(output, &block, &mut waiting)?;
-        match take_line(input, &mut block, &mut line, &waiting)? {
-            Ending::Input => {
-                finish(&line, store, output, &mut waiting)?;
-                return Ok(());
-            }
-            Ending::Feed => {}
-        }
-        let reply = reply_to(alloc, store, &line, answers);
-        match write_reply(&reply, store, &mut waiting) {
-            Ok(()) => {}
-            Err(_) => return Err(give_up(output, &mut waiting)),
+        let turn = machine.answer(alloc, store, answers, usize::MAX);
+        write_waiting(output, &mut machine.waiting)?;
+        if !read_on(alloc, turn, input, &mut machine)? {
+            machine.end(store)?;
+            return write_waiting(output, &mut machine.waiting);
         }
     }
     Err(ErrorKind::FileTooLarge.into())
 }
 
-// Writes what waits where no further whole line does, since whoever sent these lines may wait for their answers.
-fn write_ready<W: Write>(output: &mut W, block: &Block, waiting: &mut Vec<u8>) -> io::Result<()>
-    ensures ok { OnOk result (Sends (W.contents output.old) (W.contents output.new) waiting.old.items waiting.new.items) }
-    ensures err { OnErr result (HasBegun (W.contents output.old) (W.contents output.new) waiting.old.items) }
-    ensures waits { OnOk result (MayWait (unread block.now) waiting.new.items) }
+// Writes all that waits.
+fn write_waiting<W: Write>(output: &mut W, waiting: &mut Waiting) -> io::Result<()>
+    ensures ok { OnOk result (Appends (W.contents output.old) (W.contents output.new) (unsent waiting.old)) }
+    ensures empty { OnOk result (unsent waiting.new ≡ []) }
+    ensures err { OnErr result (HasBegun (W.contents output.old) (W.contents output.new) (unsent waiting.old)) }
+    ensures bytes { waiting.new.bytes ≡ waiting.old.bytes }
 {
-    if waiting.len() < BLOCK && block.has_line() {
+    let count = waiting.unsent().len();
+    if count == 0 {
         return Ok(());
     }
-    write_out(output, waiting)
+    write_all(output, waiting.unsent())?;
+    waiting.note_sent(count);
+    Ok(())
 }
 
-// What was answered before is written still where there is no memory for the next answer.
-fn give_up<W: Write>(output: &mut W, waiting: &mut Vec<u8>) -> io::Error
-    ensures { HasBegun (W.contents output.old) (W.contents output.new) waiting.old.items }
+// Reads the next bytes where no whole line is left. Whether the session goes on: not at the end of the input.
+fn read_on<R: Read>(
+    alloc: Global,
+    turn: Turn,
+    input: &mut R,
+    machine: &mut Machine,
+) -> io::Result<bool>
+    requires looked { turn ≡ Turn.Idle → left_of machine.old.block ≡ [] }
+    requires written { unsent machine.old.waiting ≡ [] }
+    ensures ok { IfOk result (λ has. Refills has (R.remaining input.old) (R.remaining input.new) (left_of machine.old.block) (left_of machine.new.block)) }
+    ensures going { OnOk result (phase_after turn ≡ Phase.Open) }
+    ensures err { OnErr result (Keeps (R.remaining input.old) (R.remaining input.new)) }
+    ensures rest { (machine.new.line ≡ machine.old.line) × (machine.new.waiting ≡ machine.old.waiting) × (machine.new.phase ≡ machine.old.phase) }
 {
-    match write_out(output, waiting) {
-        Ok(()) => ErrorKind::OutOfMemory.into(),
-        Err(error) => error,
+    match turn {
+        Turn::Idle => machine.read_from(alloc, input),
+        Turn::More | Turn::Full => Ok(true),
+        Turn::Broken => Err(ErrorKind::OutOfMemory.into()),
     }
-}
-
-// Answers what stands behind the last line feed, and writes all that waits.
-fn finish<W: Write>(
-    line: &Line,
-    store: u64,
-    output: &mut W,
-    waiting: &mut Vec<u8>,
-) -> io::Result<()>
-    ensures ok { OnOk result ((last : List ℕ) → Holds line.now last → Appends (W.contents output.old) (W.contents output.new) (waiting.old.items ++ end_text last)) }
-    ensures err { OnErr result ((last : List ℕ) → Holds line.now last → HasBegun (W.contents output.old) (W.contents output.new) (waiting.old.items ++ end_text last)) }
-{
-    if let Some(refusal) = line.unended() {
-        write_reply(&Err(refusal), store, waiting)?;
-    }
-    write_out(output, waiting)
 }

@@ -20,10 +20,10 @@ use Rattle.clap.proofs.ValueTestLemmas.{Accepts-accepts, accepts-Accepts}
 use Rattle.clap.proofs.WalkLemmas.{one_text-rows}
 use Rattle.settings.specs.declared.limits.TheConstants.{MAX_STORE}
 use Rattle.tuples.specs.Limits.{max_shards}
-use Rattle.settings.specs.CommandLine.{AsksFor, Gives, IsLine, IsNumber, number, number_or, program}
+use Rattle.settings.specs.CommandLine.{AsksFor, Gives, IsLine, IsNumber, number, number_or, program, shards_option, store_option}
 use Rattle.settings.proofs.Uses.{Pass, Uses, both, name_of, none, one, rows_of_uses, rules, shards_rule, store_rule, use_words, words_of}
-use Rattle.settings.proofs.SimWalk.{with_end}
-use Rattle.settings.proofs.Entered.{enters_sim}
+use Rattle.settings.proofs.SimWalk.{sim_uses, with_end}
+use Rattle.settings.proofs.Entered.{enters_command}
 
 -- ---- what uses give
 
@@ -245,8 +245,8 @@ gives_sim : (a : App) (words : List Text) (m : ArgMatches) (found : Found) → a
     → Some (rows_of found) ≡ option_map (λ p. p.1) (subcommand_rows_of m) → GivesSim words found
 gives_sim a words m found is free matches below =
     let right : fault_of program words ≡ [] = ap (λ (x : App). fault_of x words) (sym is) ∙ free (ap is_simple_and_free is) in
-    let in_sim = enters_sim words right in
-    let us = in_sim.uses in
+    let in_sim = enters_command (codes "sim") (store_option ∷ shards_option ∷ []) words right in
+    let us = sim_uses in_sim.rest in_sim.right in
     let entered : subcommand_rows_of m ≡ Some (codes "sim", rows_after rules [] in_sim.rest) = (matches (ap is_simple is)).1 ∙ ap (λ (x : App). subcommand_of x words) is ∙ in_sim.entered_is in
     let same : Some (rows_of found) ≡ Some (rows_after rules [] in_sim.rest) = below ∙ ap (option_map (λ p. p.1)) entered in
     record {

@@ -4,3 +4,5 @@ pub mod SimWalk
 pub mod Entered
 pub mod Asked
 pub mod Lines
+pub mod Told
+pub mod Commands

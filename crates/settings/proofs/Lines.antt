@@ -9,18 +9,19 @@ use Rattle.clap.specs.Faults.{bundle_fault, check_fault, defaults_fault, entered
 use Rattle.clap.specs.Kinds.{FailsBy, HasKind, Kinds, or_else}
 use Rattle.clap.specs.Values.{kind_of}
 use Rattle.clap.specs.declared.error.Error.{Error}
-use Rattle.clap.specs.Simple.{names_of}
+use Rattle.clap.specs.Simple.{App, names_of}
 use Rattle.clap.specs.Takes.{value_passes}
-use Rattle.clap.specs.Walk.{Held, Row, Step, Text, Walk, after_step, finished, has_row, long_or_other, nothing_held, option, plain_word, short_or_plain, trailing, settled, walk, walked, with_default}
+use Rattle.clap.specs.Walk.{Held, Row, Rule, Step, Text, Walk, after_step, finished, has_row, long_or_other, nothing_held, option, plain_word, short_or_plain, trailing, settled, walk, walked, with_default}
 use Rattle.clap.specs.declared.error.kind.ErrorKind.TheVariants as kind
 use Rattle.clap.proofs.FaultLemmas.{stopped_fault}
 use Rattle.clap.proofs.WalkLemmas.{walk_stopped}
 use Rattle.settings.specs.declared.limits.TheConstants.{MAX_STORE}
 use Rattle.tuples.specs.Limits.{max_shards}
-use Rattle.settings.specs.CommandLine.{AsksFor, Gives, IsNumber, joined_word, long_word, program}
+use Rattle.settings.specs.CommandLine.{AsksFor, Gives, IsNumber, joined_word, long_word, program, shards_option, store_option}
 use Rattle.settings.proofs.Uses.{Half, Pass, Uses, both, holding, name_of, named, none, nothing, one, pending_for, row_for, rows_of_uses, rule_for, rules, shards_rule, sim_built, store_rule, use_words, valued, words_of}
 use Rattle.settings.proofs.SimWalk.{at_word}
-use Rattle.settings.proofs.Entered.{before, behind_sim, past_entered, past_words, top_rules, whole}
+use Rattle.settings.proofs.Entered as entered_by
+use Rattle.settings.proofs.Entered.{before, top_rules}
 use Rattle.settings.proofs.Asked.{end_words, no_minus, shards_right, store_right}
 
 -- ---- the words of a line are those of uses that pass
@@ -346,6 +347,21 @@ uses_right (one b v j) t p s = one_right b v j t p s
 uses_right (both b v j w k) t p s = two_right b v j w k t p.0 s.0 p.1 s.1
 
 -- ---- the whole line
+
+abbrev sim_options : List Rule
+sim_options = store_option ∷ shards_option ∷ []
+
+abbrev whole : App
+whole = entered_by.whole (codes "sim") sim_options
+
+abbrev behind_sim : List Text → Walk
+behind_sim = entered_by.past (codes "sim") sim_options
+
+abbrev past_entered : Walk → Kinds
+past_entered = entered_by.past_entered (codes "sim") sim_options
+
+abbrev past_words : Walk → Kinds
+past_words = entered_by.past_words (codes "sim") sim_options
 
 program_right : (name : Text) (rest : List Text) → level_fault sim_built [] nothing_held rest false [] ≡ [] → fault_of program (name ∷ codes "sim" ∷ rest) ≡ []
 unfolding walk_fault walked defaults_fault

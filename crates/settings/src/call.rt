@@ -18,20 +18,20 @@ const EXAMPLE: &str = "Examples:
   zanstore call 127.0.0.1:7700 check doc:readme#viewer@ann
   zanstore call 127.0.0.1:7700 --follow watch AQAAAAAAAAAAAQAAAAAAAAAA 256 doc
 
-Options stand before the first word of the request. Requests, which may also be lines of JSON:
+Options come before the first word of the request. Requests, which may also be lines of JSON:
   write +TUPLE -TUPLE .. if ?TUPLE !TUPLE TUPLE=TOKEN ..
   read [latest | at-least TOKEN | exact TOKEN] TUPLESET ..
   check [latest | at-least TOKEN | exact TOKEN] TUPLE
   watch TOKEN LIMIT NAMESPACE ..
-Of standard input, an empty line and one that begins with ; are passed over.
+On standard input, empty lines and lines that begin with ; are skipped.
 
-Exit status: 0 if each request was answered and none refused; 1 if one was refused or is none, the
-connection failed, ended or gave no answer in time, or the input or output failed; 2 for a command
-line that can't be read.";
+Exit status: 0 if each request was answered and none refused; 1 if one was refused or is invalid, if
+the connection failed, ended or gave no answer in time, or if the input or output failed; 2 for a
+command line that can't be read.";
 
 const CALL: &str =
     "Sends requests to a server, one after another, and prints each answer line as it is.
-A refusal is told on standard error too, with what to do about it.";
+Standard error says what to do about each refusal.";
 
 const MANUAL: Manual = Manual {
     name: "call",
@@ -51,14 +51,14 @@ const PARAMETERS: &[Parameter] = &[
     Parameter {
         name: "retry",
         value_name: "N",
-        help: "Sends a request that may be sent again up to so many times more, from 0 to 1000",
+        help: "How often a request is sent again, if that is safe, from 0 to 1000",
         takes: Takes::Number(0, MAX_RETRY),
         otherwise: Otherwise::Missing,
     },
     Parameter {
         name: "timeout",
         value_name: "SECONDS",
-        help: "Waits so many seconds at most for the connection and for each answer; without it, for ever",
+        help: "How many seconds to wait for the connection and for each answer; without it, for ever",
         takes: Takes::Number(1, MAX_AMOUNT),
         otherwise: Otherwise::Missing,
     },
@@ -89,7 +89,7 @@ pub struct CallSettings {
     pub timeout: Option<u64>,
     /// Whether a watch goes on from each heartbeat.
     pub follow: bool,
-    /// The words of one request with a space between, where there are any.
+    /// The words of one request with a space between, if there are any.
     pub request: Option<String>,
     ghost few: { retry ≤ MAX_RETRY },
     ghost waits: { ForSome timeout (λ seconds. 1 ≤ seconds) },
@@ -97,7 +97,7 @@ pub struct CallSettings {
 }
 
 impl CallSettings {
-    /// Whether the words of the command line, the program's name first, are for this command: the second one is `call`, or `help`, and `call` stands behind that.
+    /// Whether the words of the command line, the program's name first, are for this command: the second one is `call`, or it is `help` and the third one is `call`.
     pub fn are_for(words: &[String]) -> bool
         ensures { IsTrue result ↔ IsFor (option_map string_bytes (slice_get words.now 1)) (option_map string_bytes (slice_get words.now 2)) (codes "call") }
     {
@@ -117,7 +117,7 @@ impl CallSettings {
         };
         // A text that can't be printed changes nothing of the status.
         let _ = eprintln!(rt;
-            "error: '{word}' is no word of a request, and options stand before its first word\n\nFor more information, try 'zanstore call --help'."
+            "error: '{word}' is not a word of a request; options come before its first word\n\nFor more information, try 'zanstore call --help'."
         );
         Err(USAGE)
     }
@@ -132,6 +132,16 @@ impl CallSettings {
 }
 
 impl Asked for CallSettings {
+    ghost use Rattle.std.specs.Prelude.{codes};
+    ghost use Rattle.settings.specs.Commands.{call_options};
+
+    ghost command = { codes "call" };
+
+    ghost options = { call_options };
+
+    // What stands behind the address may begin with a hyphen, so `clap` doesn't say what it makes of the words.
+    ghost asks = { λ told s. Unit {0} };
+
     fn program<'a>(alloc: Global) -> Result<Command<'a>, Error> {
         program(alloc, MANUAL, PARAMETERS)
     }
@@ -170,7 +180,7 @@ fn option_among(request: &str) -> Option<&str> {
     request.split(' ').find(|word| word.starts_with("--"))
 }
 
-// How often a request is sent again; never, where nothing is said.
+// How often a request is sent again; never, if nothing is said.
 fn retry_of(call: &ArgMatches) -> Option<u64>
     ensures { IfSome result (λ n. n ≤ MAX_RETRY) }
 {

@@ -6,6 +6,9 @@ pub(crate) const MAX_STORE: u64 = 4_294_967_295;
 /// The greatest number of the options that count without a limit of their own.
 pub(crate) const MAX_AMOUNT: u64 = 4_294_967_295;
 
+/// The most MiB of a budget of memory: 1 TiB.
+pub(crate) const MAX_MIB: u64 = 1_048_576;
+
 /// The greatest place that can be asked for.
 pub(crate) const MAX_PLACE: u64 = 4_294_967_295;
 

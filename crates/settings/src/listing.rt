@@ -7,7 +7,7 @@ use clap::{Command, Error};
 use std::alloc::Global;
 use std::io::{Eprint, Print};
 
-/// The version of the program and, behind it, that of the batches that it writes (docs/FORMAT.md).
+/// The version of the program, followed by that of the batches that it writes (docs/FORMAT.md).
 const VERSION: &str = "0.9.0 (format 2)";
 
 const ABOUT: &str = "A store of relation tuples: served over TCP, or run by scripts";
@@ -27,9 +27,9 @@ const COMMANDS: &[(&str, &str)] = &[
     ("dump", "Prints all tuples of a store in files"),
     (
         "reshard",
-        "Carries a store in files over to another number of shards",
+        "Copies a store in files to another folder, with another number of shards",
     ),
-    ("sim", "Runs a script over disks in memory"),
+    ("sim", "Runs a script over a store in memory"),
 ];
 
 /// Tells what the words ask of the program itself, its help or its version, or why they name none of its commands. The status to end with, 0 for help and the

@@ -2,7 +2,7 @@
 use crate::parameter::{Parameter, Takes};
 use std::io::Eprint;
 
-/// Tells the range of the first number in the words that is none, or out of its range. Who reads the words has refused them already.
+/// Tells the range of the first number in the words that is invalid or out of its range. The program has refused the words already.
 pub(crate) fn tell_range<R: Eprint>(rt: &R, words: &[String], parameters: &[Parameter<'_>]) {
     for index in 0..words.len() {
         let next = match words.get(index.saturating_add(1)) {

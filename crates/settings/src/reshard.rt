@@ -1,8 +1,10 @@
 // What a resharding is asked for, and the words that say so.
-ghost use Rattle.std.specs.Prelude.{◌≡◌, ◌≤◌, ◌⊎◌, ◌↔◌, IfErr, IsTrue, codes};
+ghost use Rattle.std.specs.Prelude.{◌≡◌, ◌≤◌, ◌⊎◌, ◌↔◌, IfErr, IfOk, IfSome, IsTrue, codes, map};
 ghost use Rattle.std.specs.Prelude.{option_map, slice_get, string_bytes};
 ghost use Rattle.settings.specs.CommandLine.{IsFor};
-ghost use Rattle.settings.specs.declared.limits.TheConstants.{MAX_STORE};
+ghost use Rattle.settings.specs.declared.limits.TheConstants.{MAX_SHARDS, MAX_STORE};
+ghost use Rattle.settings.specs.Options.{Tells};
+ghost use Rattle.clap.specs.Words.{first_value, found_of};
 
 use crate::given::{StoreGiven, number_in, store_in};
 use crate::limits::{MAX_SHARDS, USAGE};
@@ -17,22 +19,22 @@ const EXAMPLE: &str = "Example:
   mkdir wider && zanstore reshard --dir data --to wider --store 1 --shards 2 --new-shards 8
   zanstore serve --dir wider --store 1 --shards 8 --listen 127.0.0.1:7700 --workers 4
 
-It prints done. The old folder is the way back until the new one has taken a write, and from then on
-only a copy.
+It prints done. Until the new folder has taken a write, you can go back to the old one; from then on
+the old one is only a copy.
 
-Exit status: 0 once the new folder has all; 1 if a file can't be opened, the new folder has a file of
-a store, or a node refused; 2 for a command line that can't be read. If it was 1, and the new folder
-had been empty, delete what is in it: the old folder is as good as it was.";
+Exit status: 0 once the new folder has everything; 1 if a file can't be opened, if the new folder has
+a file of a store, or if a node refused; 2 for a command line that can't be read. If it was 1, and the
+new folder was empty before, delete what is in it now: the old folder has not changed.";
 
 const RESHARD: &str =
-    "Carries a store in files over to another folder, with another number of shards. No server may have the
-folder open: a file that another process has is refused with 13 Down. The new folder must be there, or
-it is 13 Down too, and have no file of a store, or it is 16 Damaged. Nothing is written to the files of
-the old one.";
+    "Copies a store in files to another folder, with another number of shards. No server may have the
+folder open: a file that another process has open is refused with 13 Down. The new folder must exist,
+or it is refused with 13 Down too, and have no file of a store, or it is refused with 16 Damaged.
+Nothing is written to the old files.";
 
 const MANUAL: Manual = Manual {
     name: "reshard",
-    about: "Carries a store in files over to another number of shards",
+    about: "Copies a store in files to another folder, with another number of shards",
     long_about: RESHARD,
     after_help: EXAMPLE,
 };
@@ -42,7 +44,7 @@ const PARAMETERS: &[Parameter] = &[
     Parameter {
         name: "to",
         value_name: "DIR",
-        help: "The folder of the new files, which is there",
+        help: "The folder of the new files, which must exist",
         takes: Takes::Text,
         otherwise: Otherwise::Refused,
     },
@@ -74,7 +76,9 @@ pub struct ReshardSettings {
 }
 
 impl ReshardSettings {
-    /// Whether the words of the command line, the program's name first, are for this command: the second one is `reshard`, or `help`, and `reshard` stands behind that.
+    ghost use Rattle.settings.specs.Commands.{AsksToReshard};
+
+    /// Whether the words of the command line, the program's name first, are for this command: the second one is `reshard`, or it is `help` and the third one is `reshard`.
     pub fn are_for(words: &[String]) -> bool
         ensures { IsTrue result ↔ IsFor (option_map string_bytes (slice_get words.now 1)) (option_map string_bytes (slice_get words.now 2)) (codes "reshard") }
     {
@@ -86,13 +90,23 @@ impl ReshardSettings {
         rt: &R,
         words: &[String],
     ) -> Result<ReshardSettings, u8>
-        ensures { IfErr result (λ status. (status ≡ 0) ⊎ (status ≡ USAGE)) }
+        ensures asked { IfOk result (AsksToReshard (map string_bytes words.now)) }
+        ensures status { IfErr result (λ status. (status ≡ 0) ⊎ (status ≡ USAGE)) }
     {
         read(rt, words)
     }
 }
 
 impl Asked for ReshardSettings {
+    ghost use Rattle.std.specs.Prelude.{codes};
+    ghost use Rattle.settings.specs.Commands.{ToReshard, reshard_options};
+
+    ghost command = { codes "reshard" };
+
+    ghost options = { reshard_options };
+
+    ghost asks = { ToReshard };
+
     fn program<'a>(alloc: Global) -> Result<Command<'a>, Error> {
         program(alloc, MANUAL, PARAMETERS)
     }
@@ -121,7 +135,11 @@ struct Numbers {
     new_shards: Shards,
 }
 
-fn numbers_of(reshard: &ArgMatches) -> Option<Numbers> {
+fn numbers_of(reshard: &ArgMatches) -> Option<Numbers>
+    ensures store { IfSome result (λ n. Tells (first_value (found_of reshard.now) (codes "store")) 0 MAX_STORE n.given.store) }
+    ensures shards { IfSome result (λ n. Tells (first_value (found_of reshard.now) (codes "shards")) 1 MAX_SHARDS n.given.shards) }
+    ensures new_shards { IfSome result (λ n. Tells (first_value (found_of reshard.now) (codes "new-shards")) 1 MAX_SHARDS n.new_shards) }
+{
     let given = store_in(reshard)?;
     let new_shards = number_in(reshard, "new-shards", 1, MAX_SHARDS)?;
     Some(Numbers {
@@ -136,7 +154,11 @@ fn settings_in(
     dir: &str,
     to: &str,
     numbers: Numbers,
-) -> Result<ReshardSettings, AllocError> {
+) -> Result<ReshardSettings, AllocError>
+    ensures texts { IfOk result (λ s. (string_bytes s.dir ≡ dir.now) × (string_bytes s.to ≡ to.now)) }
+    ensures store { IfOk result (λ s. (s.store ≡ numbers.given.store) × (s.shards ≡ numbers.given.shards)) }
+    ensures new_shards { IfOk result (λ s. s.new_shards ≡ numbers.new_shards) }
+{
     let Numbers { given, new_shards } = numbers;
     let StoreGiven { store, shards } = given;
     let dir = String::from_str(alloc, dir)?;

@@ -19,8 +19,8 @@ use std::io::{Eprint, Print};
 use tuples::Shards;
 
 const SIM: &str =
-    "Runs a script from standard input over a new store on disks in memory, and prints what each line
-answers before it looks at the next one. Nothing outlives the process.";
+    "Runs a script from standard input over a new store on disks in memory, and prints the answer of
+each line before it reads the next one. Nothing outlives the process.";
 
 const LINES: &str = "Example:
   zanstore sim <<'END'
@@ -28,18 +28,18 @@ const LINES: &str = "Example:
   check latest doc:readme#viewer@ann
   END
 
-It prints the token of the write's place, and yes with that of the place that answered:
+It prints the token of the write's place, and then yes with the token of the place that was read:
   ok AQAAAAAAAAAAAQAAAAAAAAAB
   yes AQAAAAAAAAAAAQAAAAAAAAAB
 
 Requests:
   write +doc:a#viewer@u1 -doc:b#viewer@u1 if ?doc:a#owner@u1 !doc:c#viewer@u1 doc:a#lock@lock=3
                                 touches and deletes, applied only if every condition holds: the
-                                tuple is there, is not, or was not changed after the place
+                                tuple exists, is absent, or has not changed since the place
   read latest doc:a doc@u1      tuples of an object or of a user, each with its tupleset's number
-  check latest doc:a#viewer@u1  whether the user is in the userset, by way of others too
+  check latest doc:a#viewer@u1  whether the user is in the userset, directly or through others
   watch TOKEN 256 doc group     the changes at the next 256 places in these namespaces
-In place of latest, >=TOKEN asks for that place or a later one, and =TOKEN for just that one.
+In place of latest, >=TOKEN asks for that place or a later one, and =TOKEN for exactly that one.
 
 A request call by call, under a name:
   start w REQUEST, turn w, until w decide, run w, cancel w
@@ -47,15 +47,15 @@ A request call by call, under a name:
 The care of the nodes (c is the coordinator, 0 a shard):
   flush c, checkpoint c, learn 0, resolve 0, raise 4, collect 0, rows 0
 
-Failures: the fourth call of device a of the coordinator is to fail, and what was written since its
-last sync is to be found as a5 (or old, or new). And a restart, which finds it:
+Failures: the fourth call of the coordinator's device a fails, and what was written since its last
+sync will be found as a5 (or old, or new). Then a restart, which finds it so:
   fail ca 4 a5, restart c
 
-The store goes on with another number of shards, where no flow runs:
+The store goes on with another number of shards, if nothing is under way:
   reshard 3
 
 An empty line and one that begins with ; print nothing. A line that can't be carried out prints
-refused, a number and a name. Each of them is told in docs/SCRIPTS.md and docs/API.md.
+refused, a number and a name. docs/SCRIPTS.md and docs/API.md explain each of them.
 
 Exit status: 0 at the end of the input; 1 if the input or the output failed, or there was no memory
 for the disks; 2 for a command line that can't be read.";
@@ -74,7 +74,7 @@ pub struct Settings {
 const NUMBERS: &[Parameter] = &[STORE, SHARDS];
 
 impl Settings {
-    /// Whether the words of the command line, the program's name first, are for this command: the second one is `sim`, or `help`, and `sim` stands behind that.
+    /// Whether the words of the command line, the program's name first, are for this command: the second one is `sim`, or it is `help` and the third one is `sim`.
     pub fn are_for(words: &[String]) -> bool
         ensures { IsTrue result ↔ IsFor (option_map string_bytes (slice_get words.now 1)) (option_map string_bytes (slice_get words.now 2)) (codes "sim") }
     {
@@ -164,7 +164,7 @@ fn sim_command<'a>(alloc: Global) -> Result<Command<'a>, Error>
 {
     Ok(
         Command::new(alloc, "sim")
-            .about("Runs a script from standard input over disks in memory")
+            .about("Runs a script from standard input over a store in memory")
             .long_about(SIM)
             .after_long_help(LINES)
             .arg(store_argument(alloc))?

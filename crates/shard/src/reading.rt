@@ -1,5 +1,5 @@
 // What a shard tells of what it knows.
-ghost use Rattle.std.specs.Prelude.{◌≡◌, ◌⊎◌, ◌≤◌, ◌<◌, true, IfOk, IfErr, IsErr, IsErrOf, ◌↔◌, Contains, ◌∷◌, []};
+ghost use Rattle.std.specs.Prelude.{◌≡◌, ◌⊎◌, ◌≤◌, ◌<◌, ◌+◌, true, IfOk, IfErr, IsErr, IsErrOf, ◌↔◌, Contains, ◌∷◌, []};
 ghost use Rattle.refusal.specs.Refusals.{IsOneOf};
 ghost use Rattle.tuples.specs.Reads.{IsSelection};
 ghost use Rattle.tuples.specs.Walking.{IsCheckSelection};
@@ -7,6 +7,7 @@ ghost use Rattle.tuples.specs.Versions.{there_at};
 ghost use Rattle.shard.specs.declared.replies.ReadReply.TheVariants.{Rows, Behind};
 ghost use Rattle.tuples.specs.declared.tuple.Tuple.{Tuple as AnyTuple};
 ghost use Rattle.versions.specs.Alike.{AreAlike, of_tuple};
+ghost use Rattle.versions.specs.Budget.{weights};
 ghost use Rattle.versions.specs.Rows.{AreRows};
 ghost use Rattle.versions.specs.Walks.{Rise};
 ghost use Rattle.shard.specs.Shards.{AreAscendingIds, IsUp, ids, memory};
@@ -16,6 +17,7 @@ use device::Device;
 use replay::Memory;
 use std::alloc::Global;
 use tuples::{Refusal, Tupleset, User, Userset, Version, WriteId};
+use versions::Budget;
 
 impl<D: Device> Shard<D> {
     /// The ids of the writes that are prepared and neither learned nor dropped, ascending.
@@ -62,10 +64,18 @@ impl<D: Device> Shard<D> {
     }
 
     /// The tuples of this shard that are there at a place and meet the tupleset, ascending; `Behind` where the place is above what it
-    /// has learned. `Collected` where the place is below its horizon, `Down`, `NoMemory`.
-    pub fn read(&self, alloc: Global, place: u64, set: &Tupleset) -> Result<ReadReply, Refusal>
+    /// has learned. `Collected` where the place is below its horizon, `Down`, `NoMemory`, which is also told where the budget has no
+    /// bytes for a tuple.
+    pub fn read(
+        &self,
+        alloc: Global,
+        place: u64,
+        set: &Tupleset,
+        budget: &mut Budget,
+    ) -> Result<ReadReply, Refusal>
         ensures rows { (ts : _) → IsUp D.state D.honest self.now → IfOk result (λ r. r ≡ Rows ts → (place ≤ (memory self.now).learned) × ((memory self.now).horizon ≤ place)
             × IsSelection (there_at (memory self.now).rows place) set.now ts.items) }
+        ensures counted { (ts : _) → IfOk result (λ r. r ≡ Rows ts → budget.new + weights ts.items ≡ budget.old) }
         ensures behind { IsUp D.state D.honest self.now → IfOk result (λ r. r ≡ Behind → (memory self.now).learned < place) }
         ensures ahead { IsUp D.state D.honest self.now → (memory self.now).horizon ≤ place → (memory self.now).learned < place → IfOk result (λ r. r ≡ Behind) × (IsErr result → ⊥) }
         ensures collected { IsUp D.state D.honest self.now → IsErrOf result Refusal.Collected ↔ (place < (memory self.now).horizon) }
@@ -81,7 +91,7 @@ impl<D: Device> Shard<D> {
         if self.memory.learned() < place {
             return Ok(ReadReply::Behind);
         }
-        match self.memory.at(alloc, place, set) {
+        match self.memory.at(alloc, place, set, budget) {
             Ok(tuples) => Ok(ReadReply::Rows(tuples)),
             Err(_) => Err(Refusal::NoMemory),
         }
@@ -95,9 +105,11 @@ impl<D: Device> Shard<D> {
         place: u64,
         userset: &Userset,
         user: &User,
+        budget: &mut Budget,
     ) -> Result<ReadReply, Refusal>
         ensures rows { (ts : _) → IsUp D.state D.honest self.now → IfOk result (λ r. r ≡ Rows ts → (place ≤ (memory self.now).learned) × ((memory self.now).horizon ≤ place)
             × IsCheckSelection (there_at (memory self.now).rows place) userset.now user.now ts.items) }
+        ensures counted { (ts : _) → IfOk result (λ r. r ≡ Rows ts → budget.new + weights ts.items ≡ budget.old) }
         ensures behind { IsUp D.state D.honest self.now → IfOk result (λ r. r ≡ Behind → (memory self.now).learned < place) }
         ensures ahead { IsUp D.state D.honest self.now → (memory self.now).horizon ≤ place → (memory self.now).learned < place → IfOk result (λ r. r ≡ Behind) × (IsErr result → ⊥) }
         ensures collected { IsUp D.state D.honest self.now → IsErrOf result Refusal.Collected ↔ (place < (memory self.now).horizon) }
@@ -113,7 +125,7 @@ impl<D: Device> Shard<D> {
         if self.memory.learned() < place {
             return Ok(ReadReply::Behind);
         }
-        match self.memory.asked_at(alloc, place, userset, user) {
+        match self.memory.asked_at(alloc, place, userset, user, budget) {
             Ok(tuples) => Ok(ReadReply::Rows(tuples)),
             Err(_) => Err(Refusal::NoMemory),
         }

@@ -9,5 +9,5 @@ pub mod CoordinatorTelling
 pub mod LogJoins
 pub mod Sound
 pub mod Lendings
-pub mod Lists
+pub mod Counted
 pub mod LogLendings

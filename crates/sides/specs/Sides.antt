@@ -1,5 +1,5 @@
 -- A shard under its lock, as its callers see it, and what each of its calls leaves of it.
-use Rattle.std.specs.Prelude.{◌≡◌, ◌≤◌, ℕ, List, [], length, Option, Some, None, Result, Ok}
+use Rattle.std.specs.Prelude.{◌≡◌, ◌≤◌, ℕ, max, List, [], length, Option, Some, None, Result, Ok}
 use mathlib.Core.List.{IsPrefix}
 use Rattle.atomic_table.specs.Seated.{TableId}
 use Rattle.tuples.specs.declared.entry.Entry.{Entry}
@@ -41,6 +41,12 @@ pub record IsLater (old new : Known Entry) : Type 0 where
 pub record KnowsBoth (one other new : Known Entry) : Type 0 where
   pub first : IsLater one new
   pub second : IsLater other new
+
+-- a pass knows just what either of two knew
+pub record KnowsOf (one other new : Known Entry) : Type 0 where
+  pub seen_one : IsPrefix one.seen new.seen
+  pub seen_other : IsPrefix other.seen new.seen
+  pub horizon : new.horizon ≡ max one.horizon other.horizon
 
 -- the node is there, and tied to what the pass beside it knows
 abbrev pub IsTiedIn : {D : Type 0} → (D → State) → (D → Type 0) → ℕ → ℕ → ℕ → Option (NodeView D) → Known Entry → Type 0

@@ -9,11 +9,9 @@ ghost use Rattle.sides.specs.Sides.{SideAnswers};
 use crate::coordinator_side::ask_coordinator;
 use crate::joining::join;
 use crate::shard_side::ask_shard;
-use crate::{CoordinatorSide, Room, ShardSide};
+use crate::{CoordinatorSide, Lists, Pass, Room, ShardSide};
 use calls::{CoordinatorCall, Reply, ShardCall, Told};
 use device::Device;
-use published::{Published, SessionPass};
-use tuples::Entry;
 
 impl<D: Device, B: Room> ShardSide<D, B> {
     /// Replaces the records of the node by a checkpoint of what it knows, so that its device and its next opening are as small as that. What is staged is
@@ -31,21 +29,15 @@ impl<D: Device, B: Room> ShardSide<D, B> {
 impl<D: Device, B: Room> CoordinatorSide<D, B> {
     /// The same of the coordinator: the decisions at or below the horizon are in its records no more, and the list stays whole. What was staged joins it, as
     /// behind a flush. Where a device fails the list stays as it is, until the node is opened again.
-    pub fn checkpoint(
-        &mut self,
-        words: &Published<Entry>,
-        pass: &mut SessionPass<Entry>,
-        told: &mut Told,
-    ) -> Reply
-        requires own { (words.now ≡ B.log) × (pass.old.table ≡ B.log) }
+    pub fn checkpoint(&mut self, lists: &Lists<B>, pass: &mut Pass<B>, told: &mut Told) -> Reply
         ensures answers { CoordinatorSideAnswers D.state D.honest D.moment D.left_since self.old log_checkpoint_call result self.new }
         ensures list { HasLaterList self.old self.new }
         ensures caller { KnowsAll pass.old self.new pass.new }
         ensures told { Notes told.old result told.new }
     {
         let reply = ask_coordinator(&mut self.node, CoordinatorCall::Checkpoint, told);
-        join::<D, B>(words, &mut self.log, &mut self.node);
-        words.meet(&mut self.log, pass);
+        join::<D, B>(lists, &mut self.log, &mut self.node);
+        lists.writes.meet(&mut self.log, &mut pass.pass);
         reply
     }
 }

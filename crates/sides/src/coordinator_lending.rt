@@ -4,14 +4,12 @@ ghost use Rattle.sides.specs.CoordinatorSides.{HasLaterList, HasSameList};
 ghost use Rattle.sides.specs.Lending.{ComesBackIn, IsUpThere, LandsIn, LendsIn, MayLandIn, refusal_in};
 
 use crate::joining::{ask_heads, join};
-use crate::{CoordinatorSide, Room};
+use crate::{CoordinatorSide, Lists, Room};
 use away::Away;
 use calls::{Flying, Lent};
 use device::Device;
 use journal::{BatchRoom, Journal};
-use published::Published;
 use std::marker::PhantomData;
-use tuples::Entry;
 
 /// The coordinator without its devices, and a flight: its journal with them.
 #[derive(Drop)]
@@ -93,11 +91,10 @@ impl<D: Device, B: Room> CoordinatorSide<Away<D>, B> {
     /// down, and has to be opened again.
     pub fn land(
         self,
-        words: &Published<Entry>,
+        lists: &Lists<B>,
         flown: Journal<D>,
         flying: Flying,
     ) -> (CoordinatorSide<D, B>, BatchRoom)
-        requires own { words.now ≡ B.log }
         requires may { MayLandIn D.state D.honest self.node flown flying }
         requires comes { ComesBackIn D.state D.honest self.node flown flying }
         ensures lands { LandsIn D.state D.honest self.node flown flying result.0.node }
@@ -115,7 +112,7 @@ impl<D: Device, B: Room> CoordinatorSide<Away<D>, B> {
         };
         let (node, room) = node.land(flown, flying);
         let mut node = Some(node);
-        join::<D, B>(words, &mut log, &mut node);
+        join::<D, B>(lists, &mut log, &mut node);
         let side = CoordinatorSide {
             node,
             me,

@@ -6,10 +6,10 @@ ghost use Rattle.calls.specs.declared.call.NodeCall.TheVariants.{Coordinator as 
 ghost use Rattle.sides.specs.CoordinatorSides.{AnsweredThere, IsSoundThere, IsTiedSide, MayAskThere};
 ghost use Rattle.sides.specs.Sides.{bank_len_in};
 
-use crate::{Attempt, Room};
+use crate::{Attempt, Caller, Lists, Pass, Room, Tried};
 use calls::{CoordinatorCall, Node, NodeCall, Reply, Told, ask};
 use device::Device;
-use published::{LogPass, Published, SessionPass};
+use published::{LogPass, SharedPass};
 use records::Identity;
 use std::marker::{Model, PhantomData};
 use tuples::Entry;
@@ -92,31 +92,39 @@ impl<D: Device, B: Room> CoordinatorSide<D, B> {
         }
     }
 
-    /// A new pass for a caller, which knows all that there is.
-    pub fn session(&mut self, words: &Published<Entry>) -> SessionPass<Entry>
-        requires own { words.now ≡ B.log }
+    /// A new caller, which knows all that there is, and for which nothing was staged yet.
+    pub fn session(&mut self, lists: &Lists<B>) -> Caller<B>
+        ensures same { self.new ≡ self.old }
+        ensures pass { result.pass ≡ record { table = B.log; seen = self.new.seen; horizon = self.new.low } }
+        ensures tried { result.tried.seen ≡ self.new.tried }
+    {
+        Caller {
+            pass: Pass {
+                pass: lists.writes.session(&mut self.log),
+                room: PhantomData,
+            },
+            tried: Tried {
+                pass: lists.attempts.session(&mut self.attempts),
+                ticket: None,
+                room: PhantomData,
+            },
+        }
+    }
+
+    /// A new pass for a shard, which knows all that there is.
+    pub fn shared(&mut self, lists: &Lists<B>) -> SharedPass<Entry>
         ensures same { self.new ≡ self.old }
         ensures pass { result ≡ record { table = B.log; seen = self.new.seen; horizon = self.new.low } }
     {
-        words.session(&mut self.log)
-    }
-
-    /// A new pass for a caller that writes, which knows all decisions that were ever staged.
-    pub fn attempts(&mut self, attempts: &Published<Attempt>) -> SessionPass<Attempt>
-        requires own { attempts.now ≡ B.attempts }
-        ensures same { self.new ≡ self.old }
-        ensures own { result.table ≡ B.attempts }
-        ensures all { result.seen ≡ self.new.tried }
-    {
-        attempts.session(&mut self.attempts)
+        let seen = lists.writes.session(&mut self.log);
+        SharedPass::new(&lists.writes, seen)
     }
 
     /// Whether a decision more can be counted among all that were ever staged.
-    pub fn may_decide(&mut self, attempts: &Published<Attempt>) -> bool
-        requires own { attempts.now ≡ B.attempts }
+    pub fn may_decide(&mut self, lists: &Lists<B>) -> bool
         ensures same { self.new ≡ self.old }
         ensures room { IsTrue result ↔ (length self.old.tried + 1 < 2 ^ 64) }
     {
-        attempts.length(&mut self.attempts) < u64::MAX
+        lists.attempts.length(&mut self.attempts) < u64::MAX
     }
 }

@@ -6,8 +6,8 @@ ghost use Rattle.sides.specs.CoordinatorSides.{IsSoundThere, IsTiedThere, MayAsk
 ghost use Rattle.sides.specs.Joining.{AreHeadsOf, FollowsHeads, MayJoin, RunsThere, behind_in, exactly, heads_in};
 ghost use Rattle.ties.specs.Ties.{Attempt};
 
-use crate::Room;
 use crate::coordinator_side::ask_coordinator;
+use crate::{Lists, Room};
 use calls::{CoordinatorCall, CoordinatorReply, Node, Reply, Told};
 use decisions::Heads;
 use device::Device;
@@ -165,11 +165,11 @@ pub(crate) fn ask_heads<D: Device>(node: &mut Option<Node<D>>) -> Option<Heads>
 
 /// Adds to the list what is durable of the coordinator, where that is up. What is only staged a stop may take away.
 pub(crate) fn join<D: Device, B: Room>(
-    words: &Published<Entry>,
+    lists: &Lists<B>,
     log: &mut LogPass<Entry>,
     node: &mut Option<Node<D>>,
 )
-    requires own { log.old.table ≡ words.now }
+    requires own { log.old.table ≡ B.log }
     requires sound { IsSoundThere D.state D.honest B.store B.shards node.old }
     ensures node { node.new ≡ node.old }
     ensures same { log.new.table ≡ log.old.table }
@@ -178,17 +178,17 @@ pub(crate) fn join<D: Device, B: Room>(
         → IsTiedThere D.state D.honest B.store B.shards node.new log.new.seen log.new.horizon tried }
 {
     if let Some(heads) = ask_heads(node) {
-        join_to(words, log, node, &heads);
+        join_to(&lists.writes, log, node, &heads);
     }
 }
 
 /// The list begins with what the coordinator, which is up, has found.
 pub(crate) fn begin<D: Device, B: Room>(
-    words: &Published<Entry>,
+    lists: &Lists<B>,
     log: &mut LogPass<Entry>,
     node: &mut Option<Node<D>>,
 )
-    requires own { log.old.table ≡ words.now }
+    requires own { log.old.table ≡ B.log }
     requires empty { (log.old.seen ≡ []) × (log.old.horizon ≡ 0) }
     requires runs { RunsThere D.state D.honest node.old }
     ensures node { node.new ≡ node.old }
@@ -199,5 +199,5 @@ pub(crate) fn begin<D: Device, B: Room>(
     let Some(heads) = ask_heads(node) else {
         unreachable!()
     };
-    begin_to::<D, B>(words, log, node, &heads);
+    begin_to::<D, B>(&lists.writes, log, node, &heads);
 }

@@ -11,12 +11,10 @@ ghost use Rattle.sides.specs.Lending.{FlushTellsUp, IsFlushed};
 
 use crate::coordinator_side::ask_coordinator;
 use crate::joining::join;
-use crate::{CoordinatorSide, Room};
+use crate::{CoordinatorSide, Lists, Pass, Room};
 use calls::{CoordinatorCall, CoordinatorReply, Reply, Told};
 use decisions::Settled;
 use device::Device;
-use published::{Published, SessionPass};
-use tuples::Entry;
 
 // What is told of a flush by one that was asked for its heads.
 fn flushed_by(reply: Reply) -> Reply
@@ -52,48 +50,35 @@ impl<D: Device, B: Room> CoordinatorSide<D, B> {
     }
 
     /// Makes durable what is staged, which then joins the list. Where a device fails the list stays as it is, until the node is opened again.
-    pub fn flush(
-        &mut self,
-        words: &Published<Entry>,
-        pass: &mut SessionPass<Entry>,
-        told: &mut Told,
-    ) -> Reply
-        requires own { (words.now ≡ B.log) × (pass.old.table ≡ B.log) }
+    pub fn flush(&mut self, lists: &Lists<B>, pass: &mut Pass<B>, told: &mut Told) -> Reply
         ensures answers { CoordinatorSideAnswers D.state D.honest D.moment D.left_since self.old flush_call result self.new }
         ensures list { HasLaterList self.old self.new }
         ensures caller { KnowsAll pass.old self.new pass.new }
         ensures told { Notes told.old result told.new }
     {
         let reply = ask_coordinator(&mut self.node, CoordinatorCall::Flush, told);
-        join::<D, B>(words, &mut self.log, &mut self.node);
-        words.meet(&mut self.log, pass);
+        join::<D, B>(lists, &mut self.log, &mut self.node);
+        lists.writes.meet(&mut self.log, &mut pass.pass);
         reply
     }
 
     /// A caller learns all that there is.
-    pub fn tell(&mut self, words: &Published<Entry>, pass: &mut SessionPass<Entry>)
-        requires own { (words.now ≡ B.log) × (pass.old.table ≡ B.log) }
+    pub fn tell(&mut self, lists: &Lists<B>, pass: &mut Pass<B>)
         ensures same { self.new ≡ self.old }
         ensures caller { KnowsAll pass.old self.new pass.new }
     {
-        words.meet(&mut self.log, pass);
+        lists.writes.meet(&mut self.log, &mut pass.pass);
     }
 
     /// What is answered to a flush that was made elsewhere: that it went well where the coordinator is up, and else why it is not. It makes no call of a device.
-    pub fn tell_flushed(
-        &mut self,
-        words: &Published<Entry>,
-        pass: &mut SessionPass<Entry>,
-        told: &mut Told,
-    ) -> Reply
-        requires own { (words.now ≡ B.log) × (pass.old.table ≡ B.log) }
+    pub fn tell_flushed(&mut self, lists: &Lists<B>, pass: &mut Pass<B>, told: &mut Told) -> Reply
         ensures same { self.new ≡ self.old }
         ensures caller { KnowsAll pass.old self.new pass.new }
         ensures up { FlushTellsUp self.old.node result }
         ensures belongs { IsReplyTo (of_coordinator flush_call) result }
         ensures told { Notes told.old result told.new }
     {
-        words.meet(&mut self.log, pass);
+        lists.writes.meet(&mut self.log, &mut pass.pass);
         let reply = ask_coordinator(&mut self.node, CoordinatorCall::Heads, told);
         flushed_by(reply)
     }

@@ -6,32 +6,29 @@ ghost use Rattle.sides.specs.Sides.{KnowsBoth, SideAnswers};
 ghost use Rattle.ties.specs.TellingLaws.{IsBatchOf};
 
 use crate::shard_side::ask_shard;
-use crate::{Room, ShardSide};
+use crate::{Lists, Pass, Room, ShardSide};
 use calls::{Reply, ShardCall, Told};
 use decisions::Batch;
 use device::Device;
-use published::{Published, SessionPass};
 use std::sync::Wait;
-use tuples::Entry;
 
 impl<D: Device, B: Room> ShardSide<D, B> {
     /// Learns a batch of the list that the caller's pass has seen.
     pub fn learn<R: Wait>(
         &mut self,
         rt: &R,
-        words: &Published<Entry>,
-        pass: &mut SessionPass<Entry>,
+        lists: &Lists<B>,
+        pass: &mut Pass<B>,
         told: &mut Told,
         batch: Batch,
     ) -> Reply
-        requires own { (words.now ≡ B.log) × (pass.old.table ≡ B.log) }
         requires batch { B.rests → IsBatchOf pass.old.seen batch }
         ensures answers { SideAnswers D.state D.honest D.moment D.left_since self.old (learn_call batch) result self.new }
         ensures own { KnowsBoth self.old.pass pass.old self.new.pass }
         ensures caller { KnowsBoth self.old.pass pass.old pass.new }
         ensures told { Notes told.old result told.new }
     {
-        self.share(rt, words, pass);
+        self.share(rt, lists, pass);
         let number = self.me.node();
         ask_shard(&mut self.node, number, ShardCall::Learn(batch), told)
     }

@@ -10,15 +10,18 @@
 #![tactic(auto)]
 
 mod attempts;
+mod caller;
 mod checkpointing;
 mod collecting;
 mod coordinator_lending;
 mod coordinator_side;
 mod joining;
 mod keeping;
+mod launch;
 mod learning;
 mod lending;
 mod listing;
+mod lists;
 mod preparing;
 mod reading;
 mod reopening;
@@ -29,8 +32,11 @@ mod telling;
 mod writing;
 
 pub use attempts::{Attempt, Attempts};
+pub use caller::{Caller, Pass, Tried};
 pub use coordinator_lending::LentCoordinator;
 pub use coordinator_side::CoordinatorSide;
+pub use launch::Launch;
 pub use lending::LentShard;
+pub use lists::Lists;
 pub use room::Room;
 pub use shard_side::ShardSide;

@@ -5,23 +5,21 @@ ghost use Rattle.calls.specs.declared.call.CoordinatorCall.TheVariants.{Batch as
 ghost use Rattle.sides.specs.CoordinatorSides.{CoordinatorSideAnswers, HasSameList, KnowsAll, TellsBatch, TellsFound};
 
 use crate::coordinator_side::ask_coordinator;
-use crate::{CoordinatorSide, Room};
+use crate::{CoordinatorSide, Lists, Pass, Room};
 use calls::{CoordinatorCall, Reply, Told};
 use device::Device;
-use published::{Published, SessionPass};
-use tuples::{Entry, WriteId};
+use tuples::WriteId;
 
 impl<D: Device, B: Room> CoordinatorSide<D, B> {
     /// The writes of the list behind the first place, up to the second.
     pub fn batch(
         &mut self,
-        words: &Published<Entry>,
-        pass: &mut SessionPass<Entry>,
+        lists: &Lists<B>,
+        pass: &mut Pass<B>,
         told: &mut Told,
         from: u64,
         to: u64,
     ) -> Reply
-        requires own { (words.now ≡ B.log) × (pass.old.table ≡ B.log) }
         requires range { from ≤ to }
         ensures answers { CoordinatorSideAnswers D.state D.honest D.moment D.left_since self.old (batch_call from to) result self.new }
         ensures list { HasSameList self.old self.new }
@@ -29,26 +27,25 @@ impl<D: Device, B: Room> CoordinatorSide<D, B> {
         ensures batch { B.rests → TellsBatch pass.new.seen from to result }
         ensures told { Notes told.old result told.new }
     {
-        words.meet(&mut self.log, pass);
+        lists.writes.meet(&mut self.log, &mut pass.pass);
         ask_coordinator(&mut self.node, CoordinatorCall::Batch(from, to), told)
     }
 
     /// What became of the write with this id.
     pub fn inquire(
         &mut self,
-        words: &Published<Entry>,
-        pass: &mut SessionPass<Entry>,
+        lists: &Lists<B>,
+        pass: &mut Pass<B>,
         told: &mut Told,
         id: WriteId,
     ) -> Reply
-        requires own { (words.now ≡ B.log) × (pass.old.table ≡ B.log) }
         ensures answers { CoordinatorSideAnswers D.state D.honest D.moment D.left_since self.old (inquire_call id) result self.new }
         ensures list { HasSameList self.old self.new }
         ensures caller { KnowsAll pass.old self.new pass.new }
         ensures found { B.rests → TellsFound pass.new.seen id result }
         ensures told { Notes told.old result told.new }
     {
-        words.meet(&mut self.log, pass);
+        lists.writes.meet(&mut self.log, &mut pass.pass);
         ask_coordinator(&mut self.node, CoordinatorCall::Inquire(id), told)
     }
 }

@@ -7,13 +7,12 @@ ghost use Rattle.calls.specs.declared.reply.Reply.TheVariants.{Shard as from_sha
 ghost use Rattle.sides.specs.Sides.{KnowsBoth, SideAnswers, TellsRows};
 
 use crate::shard_side::{ask_shard, look_at_shard};
-use crate::{Room, ShardSide};
+use crate::{Lists, Pass, Room, ShardSide};
 use calls::{Reply, ShardCall, Told};
 use device::Device;
-use published::{Published, SessionPass};
 use shard::ReadReply;
 use std::sync::Wait;
-use tuples::{Entry, Refusal};
+use tuples::Refusal;
 
 impl<D: Device, B: Room> ShardSide<D, B> {
     /// The place up to which it has learned.
@@ -30,19 +29,18 @@ impl<D: Device, B: Room> ShardSide<D, B> {
     pub fn look<R: Wait>(
         &self,
         rt: &R,
-        words: &Published<Entry>,
-        pass: &mut SessionPass<Entry>,
+        lists: &Lists<B>,
+        pass: &mut Pass<B>,
         told: &mut Told,
         call: &ShardCall,
     ) -> Result<ReadReply, Refusal>
-        requires own { (words.now ≡ B.log) × (pass.old.table ≡ B.log) }
         requires reads { is_read call.now ≡ true }
         ensures answers { SideAnswers D.state D.honest D.moment D.left_since self.now call.now (from_shard (read_reply call.now result)) self.now }
         ensures caller { KnowsBoth self.now.pass pass.old pass.new }
         ensures rows { B.rests → TellsRows B.shards self.now.number pass.new.seen call.now result }
         ensures told { Notes told.old (from_shard (read_reply call.now result)) told.new }
     {
-        self.tell(rt, words, pass);
+        self.tell(rt, lists, pass);
         look_at_shard(&self.node, self.me.node(), call, told)
     }
 }

@@ -10,10 +10,10 @@ ghost use Rattle.ties.specs.Ties.{Anywhere};
 
 use crate::joining::{begin, join};
 use crate::reopening::revive;
-use crate::{Attempt, CoordinatorSide, Room};
+use crate::{Attempt, CoordinatorSide, Lists, Room};
 use calls::Node;
 use device::Device;
-use published::{LogPass, Published};
+use published::LogPass;
 use records::Identity;
 use std::alloc::Global;
 use std::marker::PhantomData;
@@ -55,7 +55,7 @@ impl<D: Device, B: Room> CoordinatorSide<D, B> {
     /// Opens the coordinator over two devices, of which a stop leaves the list at which the store rests, and perhaps more. Both are revived first. It is up,
     /// with what was found behind the list; or its opening is refused.
     pub fn open(
-        words: &Published<Entry>,
+        lists: &Lists<B>,
         alloc: Global,
         a: D,
         b: D,
@@ -63,7 +63,7 @@ impl<D: Device, B: Room> CoordinatorSide<D, B> {
         log: LogPass<Entry>,
         attempts: LogPass<Attempt>,
     ) -> Result<CoordinatorSide<D, B>, Refusal>
-        requires own { (words.now ≡ B.log) × (log.table ≡ B.log) × (attempts.table ≡ B.attempts) }
+        requires own { (log.table ≡ B.log) × (attempts.table ≡ B.attempts) }
         requires empty { (log.seen ≡ []) × (log.horizon ≡ 0) × (attempts.seen ≡ []) }
         requires me { me ≡ coordinator_node B.store B.shards }
         requires honest { D.honest a × D.honest b }
@@ -81,7 +81,7 @@ impl<D: Device, B: Room> CoordinatorSide<D, B> {
         }
         let mut log = log;
         let mut node = Some(opened);
-        begin::<D, B>(words, &mut log, &mut node);
+        begin::<D, B>(lists, &mut log, &mut node);
         Ok(CoordinatorSide {
             node,
             me,
@@ -93,13 +93,12 @@ impl<D: Device, B: Room> CoordinatorSide<D, B> {
 
     /// The node's memory is thrown away, its devices are revived, and it is opened again: what was found behind the list joins it. The refusal of its
     /// opening, where that was refused.
-    pub fn restart(&mut self, words: &Published<Entry>, alloc: Global) -> Option<Refusal>
-        requires own { words.now ≡ B.log }
+    pub fn restart(&mut self, lists: &Lists<B>, alloc: Global) -> Option<Refusal>
         ensures restarted { LogRestartedIn D.state D.honest D.moment D.left_since (coordinator_node B.store B.shards) self.old.node result self.new.node }
         ensures list { HasLaterList self.old self.new }
     {
         let refusal = restart_coordinator(&mut self.node, alloc, self.me);
-        join::<D, B>(words, &mut self.log, &mut self.node);
+        join::<D, B>(lists, &mut self.log, &mut self.node);
         refusal
     }
 }

@@ -7,10 +7,10 @@ ghost use Rattle.calls.specs.declared.call.NodeCall.TheVariants.{Shard as of_sha
 ghost use Rattle.calls.specs.declared.reply.Reply.TheVariants.{Shard as from_shard};
 ghost use Rattle.sides.specs.Sides.{AnsweredIn, IsTiedIn, KnowsBoth, MayAskIn, bank_len_in};
 
-use crate::Room;
+use crate::{Lists, Pass, Room};
 use calls::{Node, NodeCall, Reply, ShardCall, Told, ask, look};
 use device::Device;
-use published::{Published, SessionPass, SharedPass};
+use published::SharedPass;
 use records::Identity;
 use shard::ReadReply;
 use std::marker::{Model, PhantomData};
@@ -125,13 +125,7 @@ impl<D: Device, B: Room> ShardSide<D, B> {
     }
 
     /// The shard's pass and the caller's both know what either knew.
-    pub fn share<R: Wait>(
-        &mut self,
-        rt: &R,
-        words: &Published<Entry>,
-        pass: &mut SessionPass<Entry>,
-    )
-        requires own { (words.now ≡ B.log) × (pass.old.table ≡ B.log) }
+    pub fn share<R: Wait>(&mut self, rt: &R, lists: &Lists<B>, pass: &mut Pass<B>)
         ensures same { (self.new.node ≡ self.old.node) × (self.new.number ≡ self.old.number) }
         ensures own { KnowsBoth self.old.pass pass.old self.new.pass }
         ensures caller { KnowsBoth self.old.pass pass.old pass.new }
@@ -139,15 +133,14 @@ impl<D: Device, B: Room> ShardSide<D, B> {
         // To what the caller's pass knows the node is tied as well.
         ensures tied { B.rests → IsTiedIn D.state D.honest B.store B.shards self.new.number self.new.node pass.new }
     {
-        self.pass.share(rt, words, pass);
+        self.pass.share(rt, &lists.writes, &mut pass.pass);
     }
 
     /// The caller's pass knows what either knew.
-    pub fn tell<R: Wait>(&self, rt: &R, words: &Published<Entry>, pass: &mut SessionPass<Entry>)
-        requires own { (words.now ≡ B.log) × (pass.old.table ≡ B.log) }
+    pub fn tell<R: Wait>(&self, rt: &R, lists: &Lists<B>, pass: &mut Pass<B>)
         ensures caller { KnowsBoth self.now.pass pass.old pass.new }
         ensures tied { B.rests → IsTiedIn D.state D.honest B.store B.shards self.now.number self.now.node pass.new }
     {
-        self.pass.tell(rt, words, pass);
+        self.pass.tell(rt, &lists.writes, &mut pass.pass);
     }
 }

@@ -7,14 +7,13 @@ ghost use Rattle.sides.specs.CoordinatorSides.{AddsTried, CoordinatorSideAnswers
 
 use crate::attempts::note_decision;
 use crate::coordinator_side::ask_coordinator;
-use crate::{Attempt, CoordinatorSide, Room};
+use crate::{Caller, CoordinatorSide, Lists, Room};
 use calls::{CoordinatorCall, Reply, Told};
 use coordinator::Decided;
 use decisions::{Intent, Vote};
 use device::Device;
-use published::{Published, SessionPass};
 use std::snapshot::Snapshot;
-use tuples::{Entry, Write};
+use tuples::Write;
 
 impl<D: Device, B: Room> CoordinatorSide<D, B> {
     /// Begins a write: nothing of it is in the list yet.
@@ -31,55 +30,51 @@ impl<D: Device, B: Room> CoordinatorSide<D, B> {
     /// its outcome then, with the pass that knows of it. It has to be asked first whether one decision more can be counted.
     pub fn decide(
         &mut self,
-        words: &Published<Entry>,
-        attempts: &Published<Attempt>,
-        pass: &mut SessionPass<Entry>,
-        tried: &mut SessionPass<Attempt>,
+        lists: &Lists<B>,
+        caller: &mut Caller<B>,
         told: &mut Told,
         intent: Intent,
         votes: Vec<Vote>,
     ) -> Reply
-        requires own { (words.now ≡ B.log) × (pass.old.table ≡ B.log) }
-        requires own_attempts { (attempts.now ≡ B.attempts) × (tried.old.table ≡ B.attempts) }
         requires room { length self.old.tried + 1 < 2 ^ 64 }
         requires voted { HaveVoted B.shards intent.write votes.items }
         ensures answers { CoordinatorSideAnswers D.state D.honest D.moment D.left_since self.old (decide_call intent votes) result self.new }
         ensures list { AddsTried self.old intent.write result self.new }
-        ensures caller { KnowsAll pass.old self.new pass.new }
-        ensures known { KnowsTried tried.old self.new tried.new }
-        ensures decided { B.rests → TellsDecided pass.new.seen result }
+        ensures caller { KnowsAll caller.old.pass self.new caller.new.pass }
+        ensures known { KnowsTried caller.old.tried self.new caller.new.tried }
+        ensures decided { B.rests → TellsDecided caller.new.pass.seen result }
         ensures told { Notes told.old result told.new }
     {
-        words.meet(&mut self.log, pass);
+        lists.writes.meet(&mut self.log, &mut caller.pass.pass);
         let was = Snapshot::of(&intent);
         let call = CoordinatorCall::Decide(intent, votes);
         let reply = ask_coordinator(&mut self.node, call, told);
-        note_decision(attempts, &mut self.attempts, &was, &reply);
-        attempts.meet(&mut self.attempts, tried);
+        note_decision(&lists.attempts, &mut self.attempts, &was, &reply);
+        lists
+            .attempts
+            .meet(&mut self.attempts, &mut caller.tried.pass);
         reply
     }
 
     /// What became of a decision.
     pub fn outcome(
         &mut self,
-        words: &Published<Entry>,
-        attempts: &Published<Attempt>,
-        pass: &mut SessionPass<Entry>,
-        tried: &mut SessionPass<Attempt>,
+        lists: &Lists<B>,
+        caller: &mut Caller<B>,
         told: &mut Told,
         decided: Decided,
     ) -> Reply
-        requires own { (words.now ≡ B.log) × (pass.old.table ≡ B.log) }
-        requires own_attempts { (attempts.now ≡ B.attempts) × (tried.old.table ≡ B.attempts) }
         ensures answers { CoordinatorSideAnswers D.state D.honest D.moment D.left_since self.old (outcome_call decided) result self.new }
         ensures list { HasSameList self.old self.new }
-        ensures caller { KnowsAll pass.old self.new pass.new }
-        ensures known { KnowsTried tried.old self.new tried.new }
-        ensures kept { B.rests → TellsKept pass.new.seen tried.new.seen decided result }
+        ensures caller { KnowsAll caller.old.pass self.new caller.new.pass }
+        ensures known { KnowsTried caller.old.tried self.new caller.new.tried }
+        ensures kept { B.rests → TellsKept caller.new.pass.seen caller.new.tried.seen decided result }
         ensures told { Notes told.old result told.new }
     {
-        words.meet(&mut self.log, pass);
-        attempts.meet(&mut self.attempts, tried);
+        lists.writes.meet(&mut self.log, &mut caller.pass.pass);
+        lists
+            .attempts
+            .meet(&mut self.attempts, &mut caller.tried.pass);
         ask_coordinator(&mut self.node, CoordinatorCall::Outcome(decided), told)
     }
 

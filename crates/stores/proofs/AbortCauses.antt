@@ -24,7 +24,7 @@ module _ (store shards : ℕ) (left : NodeName → List Record → Type 0) (now 
       (λ of_now. inr ((own.intent intent has_it).1.opened kept memory knows (sym of_now.0)))
       ((own.undecided flow.undecided).given.now kept memory knows)
 
-  -- where its write is not open, the coordinator was opened since
+  -- if its write is not open, the coordinator was opened since
   lost : (IsOpen now.nodes w → ⊥) → IsLost now.nodes r w.id
   lost closed = record {
     reopened = ⊎_elim (λ yes. yes) (λ no. absurd (closed (own.not_reopened intent has_it no))) (cases_Bool r.is_reopened);
@@ -47,7 +47,7 @@ module _ (store shards : ℕ) (left : NodeName → List Record → Type 0) (now 
         let is : memory.epoch ≡ (shard_state (knows.durable ++ knows.staged)).epoch = ap (λ (m : ShardState). m.epoch) knows.replayed in
         omega (arith, low, same, is)
 
-    -- while the write is open the shard loses its prepare by an opening alone
+    -- while the write is open the shard loses its prepare only by an opening
     by_shard : IsOpen now.nodes w → t.epoch < memory.epoch
     by_shard here = ⊎_elim
         (λ (lt : t.epoch < memory.epoch). lt)

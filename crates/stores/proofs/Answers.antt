@@ -48,7 +48,7 @@ comes_next me None s r outside some (inl may) = may
 comes_next me None s r outside some (inr begins) = let none = begins_unopened s.epoch r begins in absurd (omega (arith, none, some))
 comes_next me (Some i) s r outside some may = absurd cc
 
--- so no record behind those of a coordinator that was opened changes the base
+-- so no record after those of a coordinator that was opened changes the base
 base_behind : (me : Identity) (before rs : List Record) → IsCoordinatorImage me before → 1 ≤ (coordinator_state before).epoch → BeginsCoordinatorImage me (before ++ rs)
     → (coordinator_state (before ++ rs)).base ≡ (coordinator_state before).base
 base_behind me before [] was some all = ap (λ (l : List Record). (coordinator_state l).base) (append-nil before)
@@ -63,7 +63,7 @@ base_behind me before (r ∷ rs) was some all =
     ∙ ap (λ (c : CoordinatorState). c.base) stepped
     ∙ base_next me s r may
 
--- what is behind a place is at its place in the list
+-- what is after a place is at its place in the list
 of_drop : {X : Type 0} (k : ℕ) (xs : List X) (j : ℕ) (x : X) → slice_get (drop k xs) j ≡ Some x → slice_get xs (k + j) ≡ Some x
 of_drop k xs j x is = sym (slice_get_drop k xs j) ∙ is
 
@@ -71,7 +71,7 @@ module _ (store shards : ℕ) (left : NodeName → List Record → Type 0) (now 
   whole : Means store shards now.machine.log now.machine.horizon (knows.durable ++ knows.staged) (at_shards (leaves left now.nodes))
   whole = st.heads.whole knows.durable knows.staged knows.is_up
 
-  -- what the coordinator knows is the log behind its base
+  -- what the coordinator knows is the log after its base
   known : memory.log ≡ drop memory.base now.machine.log
   known = subst (λ (c : CoordinatorState). c.log ≡ drop c.base now.machine.log) (sym knows.replayed) whole.decided.decisions
 

@@ -18,7 +18,7 @@ module _ (store shards : ℕ) (left after : NodeName → List Record → Type 0)
   whole : Means store shards now.machine.log now.machine.horizon (flush.durable ++ flush.staged) (at_shards (leaves left now.nodes))
   whole = stands.heads.whole flush.durable flush.staged flush.was
 
-  -- the records that take the place of these mean the whole log too
+  -- the records that replace these mean the whole log too
   fresh_means : Means store shards now.machine.log now.machine.horizon flush.records (at_shards (leaves left now.nodes))
   fresh_means = forgotten_means store shards now.machine.log now.machine.horizon (flush.durable ++ flush.staged) flush.records (at_shards (leaves left now.nodes)) flush.stand_for whole
 

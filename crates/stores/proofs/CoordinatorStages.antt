@@ -1,4 +1,4 @@
--- The coordinator of a store that stands stages one record more: what is known of the nodes then.
+-- The coordinator of a store that stands stages one more record: what is known of the nodes then.
 use Rattle.std.proofs.Common.{◌≡◌, ◌⊎◌, inl, inr, ⊎_elim, ℕ, ◌≤◌, false, List, [], ◌∷◌, ◌++◌, Contains, refl, sym, ◌∙◌, ap, subst, append_assoc, arith}
 use Rattle.std.proofs.lemmas.List.Elements.{Contains-push_cases}
 use Rattle.stores.proofs.Words.{CoordinatorKnows, CoordinatorState, Epoch, IsOfRefusedOpening, Moment, NodeName, NodeState, Nodes, NodesStand, Record, Refusal, Stands, coordinator, coordinator_push, coordinator_state, down, leaves, refused, shard, staged_of, up}
@@ -11,7 +11,7 @@ module _ (store shards : ℕ) (left : NodeName → List Record → Type 0) (now 
   pub knew : CoordinatorKnows now.nodes (coordinator_state durable) (coordinator_state (durable ++ staged))
   knew = record { durable = durable; staged = staged; is_up = was; durable_state = refl; replayed = refl }
 
-  -- what the coordinator knows now: the same is durable, and it has one record more
+  -- what the coordinator knows now: the same is durable, and it has one more record
   pub knows_now : (kept m : CoordinatorState) → CoordinatorKnows next kept m → (kept ≡ coordinator_state durable) × (m ≡ coordinator_step (coordinator_state (durable ++ staged)) r)
   knows_now kept m k =
       let both : up k.durable k.staged ≡ up durable (staged ++ r ∷ []) = sym k.is_up ∙ is_now in (
@@ -41,7 +41,7 @@ module _ (store shards : ℕ) (left : NodeName → List Record → Type 0) (now 
       let both : up durable (staged ++ r ∷ []) ≡ up d g = sym is_now ∙ is in
       append_assoc durable staged (r ∷ []) ∙ ap (λ (l : List Record). l ++ (staged ++ r ∷ [])) (ap durable_in both) ∙ ap (λ (l : List Record). d ++ l) (ap staged_of both)
 
-  -- a raise that was taken still is, where the horizon that the coordinator knows does not fall
+  -- a raise that was taken still is, if the horizon that the coordinator knows does not fall
   pub still_taken : (later : Moment) → later.nodes.at coordinator ≡ next.at coordinator → now.machine.horizon ≤ later.machine.horizon
       → (coordinator_state (durable ++ staged)).horizon ≤ (coordinator_state (durable ++ (staged ++ r ∷ []))).horizon
       → (x : ℕ) → IsTaken shards left left now later false left now x → IsTaken shards left left now later false left later x

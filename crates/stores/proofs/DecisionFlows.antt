@@ -12,7 +12,7 @@ use Rattle.stores.proofs.Frames.{KeepsWrite, batch_on, frame, same_doubts, ticke
 use Rattle.stores.proofs.DecisionNodes.{keeps, given_kept, heads_kept, ids_kept, listed_kept, locks_kept, nodes_kept, own_given, rests_kept, unlisted_longer, verdict_kept}
 
 module _ (store shards : ℕ) (left : NodeName → List Record → Type 0) (now : Moment) (next : Nodes) (place : ℕ) (w : Entry) (st : IsDeciding store shards left now next place w) where
-  -- of another write: its conditions go on to hold, since no write in doubt shares a tuple with this one
+  -- of another write: its conditions still hold, since no write in doubt shares a tuple with this one
   keeps_write : (v : Entry) → v.id ≢ w.id → KeepsWrite shards left left now (with_decision now next w) false false v
   keeps_write v ne = record {
     is_open = λ unopened here. subst (λ (l : List Entry). Contains l v) (sym st.step.open_writes) (stays_without w.id now.nodes.open_writes v ne here);

@@ -25,7 +25,7 @@ epoch_stays s (Epoch e f g h ∷ rs) none = absurd (none e f g h (0, omega arith
 epoch_stays s (Decision place v ∷ rs) none = epoch_stays (coordinator_step s (Decision place v)) rs (λ a b c d has. none a b c d (Contains-append_right (Decision place v ∷ []) rs (Epoch a b c d) has))
 epoch_stays s (Horizon place ∷ rs) none = epoch_stays (coordinator_step s (Horizon place)) rs (λ a b c d has. none a b c d (Contains-append_right (Horizon place ∷ []) rs (Epoch a b c d) has))
 
--- so what is staged behind durable records leaves theirs
+-- so what is staged after durable records leaves theirs
 pub staged_epoch : (durable staged : List Record) → ((a b c d : ℕ) → Contains staged (Epoch a b c d) → ⊥) → (coordinator_state (durable ++ staged)).epoch ≡ (coordinator_state durable).epoch
 unfolding coordinator_state
 staged_epoch durable staged none = ap (λ (c : CoordinatorState). c.epoch) (coordinator_from-append empty_coordinator durable staged) ∙ epoch_stays (coordinator_from empty_coordinator durable) staged none
@@ -34,7 +34,7 @@ module _ (store shards : ℕ) (left : NodeName → List Record → Type 0) (now 
   pub knew : CoordinatorKnows now.nodes (coordinator_state st.step.durable) (coordinator_state (st.step.durable ++ st.step.staged))
   knew = record { durable = st.step.durable; staged = st.step.staged; is_up = st.step.was; durable_state = refl; replayed = refl }
 
-  -- what the coordinator knows now: the same is durable, and it has one decision more
+  -- what the coordinator knows now: the same is durable, and it has one more decision
   pub knows_now : (kept m : CoordinatorState) → CoordinatorKnows next kept m → (kept ≡ coordinator_state st.step.durable) × (m ≡ coordinator_step (coordinator_state (st.step.durable ++ st.step.staged)) (Decision place w))
   knows_now = stages.knows_now store shards left now next st.stands (Decision place w) st.step.durable st.step.staged st.step.was st.step.now st.step.shards
 

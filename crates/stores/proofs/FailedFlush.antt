@@ -40,7 +40,7 @@ module _ (store shards : ℕ) (left after : NodeName → List Record → Type 0)
       not_damaged coordinator e is = here.sound e is
       not_damaged (shard t) e is = stands.nodes.sound (shard t) e (sym (unchanged t) ∙ is)
 
-  -- of a coordinator that is not up nothing is known
+  -- nothing is known of a coordinator that is not up
   pub nothing_known : (m : Machine) → ((d g : List Record) → next.at coordinator ≡ up d g → ⊥) → ((e : Refusal) → next.at coordinator ≡ refused e → IsOfRefusedOpening e)
       → CoordinatorStands store shards after next × HeadsStand store shards after next m
   nothing_known m not_up sound = (
@@ -76,7 +76,7 @@ module _ (store shards : ℕ) (left after : NodeName → List Record → Type 0)
       (λ (for_it : StandFor coordinator (fails.durable ++ fails.staged) found). subst (λ (k : ℕ). id.epoch ≤ k) (sym (for_it.0.epoch ∙ same_epoch)) low)
       (fails.here found is)
 
-  -- what a stop leaves of the coordinator means what something means that it could leave
+  -- what a stop leaves of the coordinator means the same as something that it could leave
   means_as_before : (found : List Record) → leaves after next coordinator found → MeansAsBefore store shards left now.nodes found
   means_as_before found is =
       let same : found ≡ is.0 = ⊎_elim (λ plain. plain) (λ more. more ∙ ap (λ (l : List Record). is.0 ++ l) (ap staged_of fails.now) ∙ append-nil is.0) is.2 in

@@ -1,4 +1,4 @@
--- A flow takes its turn: it stands in its slot behind it, and the others stay as they are.
+-- A flow takes its turn: it stands in its slot after it, and the others stay as they are.
 use Rattle.std.proofs.Common.{◌≡◌, ◌≢◌, ◌⊎◌, inl, inr, ⊎_elim, ◌==◌, ◌≤◌, ◌++◌, ℕ, zero, suc, Bool, true, false, true≢false, List, [], ◌∷◌, Some, slice_get, Contains, refl, sym, ◌∙◌, ap, subst, arith, if◌then◌else◌, length}
 use Rattle.std.proofs.lemmas.Bool.{eq-eqb, eqb-true}
 use Rattle.std.proofs.lemmas.List.Elements.{Contains-push_cases}
@@ -21,7 +21,7 @@ same_length later (q ∷ rs) = by_slot (q.slot == later.slot) (same_length later
     by_slot true same = refl
     by_slot false same = omega (arith, same)
 
--- where one flow is replaced, a flow is that one behind its turn, or another that stood at its place before
+-- if one flow is replaced, a flow is that one after its turn, or another that stood at its place before
 replaced_at : (later : Running) (rs : List Running) (k : ℕ) (r : Running) → AreSlots rs → slice_get rs k ≡ Some r → r.slot ≡ later.slot
     → (j : ℕ) (x : Running) → slice_get (replaced later rs) j ≡ Some x → ((j ≡ k) × (x ≡ later)) ⊎ ((j ≢ k) × (slice_get rs j ≡ Some x))
 replaced_at later [] zero r once at same j x is = absurd cc
@@ -58,7 +58,7 @@ module _ (store shards : ℕ) (left stops : NodeName → List Record → Type 0)
       (λ old. (x, old.1, refl))
       (is_at j x is)
 
-  -- no other flow has the write that it has behind its turn: it is the one that it had, or one that no flow has
+  -- no other flow has the write that it has after its turn: it is the one that it had, or one that no flow has
   other : (j : ℕ) (x : Running) (one : WriteId) → j ≢ (contained_at now.running r there).0 → slice_get now.running j ≡ Some x → id_of x.holds ≡ Some one → id_of later.holds ≡ Some one → ⊥
   other j x one ne at has same = ⊎_elim
       (λ kept. ne (flows.ids j (contained_at now.running r there).0 x r one at at_k has (sym kept ∙ same)))
@@ -105,7 +105,7 @@ module _ (store shards : ℕ) (left stops : NodeName → List Record → Type 0)
         ⊎_elim (λ new. subst IsQuietFlow (sym new.1) quiet) (λ old. flows.quiet x (contained_from now.running at.0 x old.1)) (is_at at.0 x at.1);
   }
 
--- a flow that has seen one machine more, which lies at or below
+-- a flow that has seen one more machine, which lies at or below
 pub sees_more : (before now m : Machine) (r later : Running) → later.seen ≡ r.seen ++ m ∷ [] → m.kept ≤ now.kept → m.horizon ≤ now.horizon → before.kept ≤ now.kept → before.horizon ≤ now.horizon
     → HasSeenBelow before r → HasSeenBelow now later
 sees_more before now m r later is kept horizon up_kept up_horizon sees p there = ⊎_elim

@@ -9,8 +9,8 @@ use Rattle.tuples.proofs.Lists.{taken_there}
 use Rattle.laws.specs.Walks.{IsWalk}
 use Rattle.decisions.specs.Standing.{IsPromised}
 
--- A store of so many shards makes a step, which may be an opening of the coordinator: then the flows are marked with it. Given are both moments, and
--- what a stop leaves of each node before and behind the step.
+-- A store of this many shards makes a step, which may be an opening of the coordinator: then the flows are marked with it. Given are both moments,
+-- and what a stop leaves of each node before and after the step.
 module _ (shards : ℕ) (left after : NodeName → List Record → Type 0) (now later : Moment) (opens : Bool) where
   -- A coordinator that is up was up before, in the same epoch: ids are not counted back, and the log has lost no write.
   pub record KnewBefore (memory : CoordinatorState) : Type 0 where
@@ -41,8 +41,8 @@ module _ (shards : ℕ) (left after : NodeName → List Record → Type 0) (now 
     pub taken : opens ≡ false → (x : ℕ) → IsTaken left now x → IsTaken after later x
     pub named : (x : ℕ) → Contains now.named x → Contains later.named x
 
-  -- What a shard has in doubt under a write's id: it had it before; or, where the step may prepare the write, it is its part, whose conditions hold where
-  -- the write is open.
+  -- What a shard has in doubt under a write's id: it had it before; or, if the step may prepare the write, it is its part, whose conditions hold if the
+  -- write is open.
   abbrev pub IsDoubt : Bool → Entry → ℕ → Entry → Type 0
   IsDoubt prepares w t p = ((old : List Record) × leaves left now.nodes (shard t) old × (find_in_doubt w.id (shard_state old).in_doubt ≡ Some p))
       ⊎ ((prepares ≡ true) × (takes_part shards t w ≡ true) × (p ≡ part shards t w) × (IsOpen now.nodes w → HoldAfter later.machine.log p.conditions))
@@ -56,7 +56,7 @@ module _ (shards : ℕ) (left after : NodeName → List Record → Type 0) (now 
         × (IsOpen now.nodes w → find_in_doubt w.id before.in_doubt ≡ Some (part shards t w) → find_in_doubt w.id memory.in_doubt ≡ Some (part shards t w)))
         ⊎ ((epoch : ℕ) → IsShardEpoch (left (shard t)) epoch → epoch < memory.epoch)
 
-  -- What a step keeps of a flow's write: it stays open unless the coordinator is opened, and is not listed; the conditions of its prepares go on to
+  -- What a step keeps of a flow's write: it stays open unless the coordinator is opened, and is not listed; the conditions of its prepares still
   -- hold; and its prepares are kept.
   pub record KeepsWrite (prepares : Bool) (w : Entry) : Type 0 where
     pub is_open : opens ≡ false → IsOpen now.nodes w → IsOpen later.nodes w
@@ -66,7 +66,7 @@ module _ (shards : ℕ) (left after : NodeName → List Record → Type 0) (now 
     pub doubts : KeepsDoubts prepares w
 
   module _ (same : (t : ℕ) → later.nodes.at (shard t) ≡ now.nodes.at (shard t)) (less : (t : ℕ) (rs : List Record) → after (shard t) rs → left (shard t) rs) where
-    -- of a shard that is as it was a stop leaves no more than before, with what is staged
+    -- if a shard is as it was, a stop leaves no more of it than before, with what is staged
     pub shard_less : (t : ℕ) (found : List Record) → leaves after later.nodes (shard t) found → leaves left now.nodes (shard t) found
     shard_less t found is = (is.0, less t is.0 is.1, ⊎_elim (λ plain. inl plain) (λ more. inr (more ∙ ap (λ (m : NodeState). is.0 ++ staged_of m) (same t))) is.2)
 
@@ -209,7 +209,7 @@ module _ (shards : ℕ) (left after : NodeName → List Record → Type 0) (now 
           (on.coordinator_knew kept m knows);
     }
 
-    -- of a flow, which is marked where the coordinator is opened
+    -- of a flow, which is marked if the coordinator is opened
     module _ (f : Running) where
       abbrev pub marked : Running
       marked = record f { is_reopened = opens || f.is_reopened }
@@ -254,7 +254,7 @@ module _ (shards : ℕ) (left after : NodeName → List Record → Type 0) (now 
       held_on : (h : HeadsHeld) → AreHeldHeads shards left now f h → AreHeldHeads shards after later marked h
       held_on h k = record { heads = λ x is. heads_on x (k.heads x is); batch = λ b is. batch_on b (k.batch b is) }
 
-      -- What the flow holds is right behind the step, where its own write is kept.
+      -- What the flow holds is right after the step, if its own write is kept.
       pub frame : (a : Asked) (h : Holds) → ((w : Entry) → id_of h ≡ Some w.id → KeepsWrite false w) → IsRight shards left now f a h → IsRight shards after later marked a h
       frame (to_write changes conditions) (writing h) own k = record {
         nothing = λ none. let old = k.nothing none in record { intent = old.intent; tickets = old.tickets; votes = old.votes; decided = old.decided; verdict = old.verdict };

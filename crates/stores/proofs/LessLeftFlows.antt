@@ -1,10 +1,10 @@
--- Nodes go on to rest, and know what they knew: what a store stands for stays.
+-- Nodes stay at rest, and know what they knew: what a store stands for stays.
 use Rattle.std.proofs.Common.{◌≡◌, inl, inr, ⊎_elim, ℕ, ◌++◌, arith, List, sym, ◌∙◌, ap, ◌<◌, refl, ◌⊎◌, false}
 use Rattle.stores.proofs.Words.{CoordinatorKnows, CoordinatorState, IsGivenOut, IsSettled, IsShardEpoch, ListedStand, Means, Moment, NodeName, NodeState, Nodes, NodesStand, Record, Rests, ShardKnows, ShardState, Stands, WriteId, at_shards, coordinator, down, leaves, shard, shard_state, staged_of, up, with_nodes}
 use Rattle.stores.proofs.Frames.{same_taken}
 use Rattle.stores.proofs.SameWrites.{SameWrites, still_stands}
 
--- All nodes go on to rest; what a stop leaves of a shard has in doubt what it could leave before; a shard has in doubt what it had, or is of a later
+-- All nodes stay at rest; what a stop leaves of a shard has in doubt what it could leave before; a shard has in doubt what it had, or is of a later
 -- epoch; the coordinator is as it was, or down; and what a stop leaves of a node has no lower epoch, and of a shard has learned no less.
 pub record GoesOn (store shards : ℕ) (left after : NodeName → List Record → Type 0) (now : Moment) (next : Nodes) : Type 0 where
   pub stands : Stands store shards left now
@@ -49,7 +49,7 @@ module _ (store shards : ℕ) (left after : NodeName → List Record → Type 0)
         on.coordinator_was;
   }
 
-  -- what the store stands for stays, where its nodes stand
+  -- what the store stands for stays, if its nodes stand
   pub stands_on : NodesStand store shards after next → Stands store shards after (with_nodes now next)
   stands_on nodes = still_stands store shards left after now next now.machine.kept now.machine.horizon on_from on.rests nodes
       (record {

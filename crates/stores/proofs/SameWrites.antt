@@ -1,4 +1,4 @@
--- A step that leaves the log and which writes are open: what a store stands for stays, where its nodes rest and stand.
+-- A step that leaves the log and which writes are open: what a store stands for stays, if its nodes rest and stand.
 use Rattle.std.proofs.Common.{◌≡◌, ◌⊎◌, inl, inr, ⊎_elim, ℕ, ◌<◌, ◌≤◌, false, List, length, Contains, refl, sym, ◌∙◌, ap, subst, arith}
 use Rattle.stores.proofs.Words.{AreApart, AreNew, CoordinatorKnows, CoordinatorState, Entry, HeadsStand, IsGivenOut, IsOpen, IsSettled, IsShardEpoch, ListedStand, Moment, NodeName, Nodes, NodesStand, Record, Rests, ShardKnows, ShardState, Stands, WriteId, at_shards, coordinator, find_in_doubt, leaves, shard, shard_state}
 use Rattle.stores.proofs.Frames.{IsTaken, KeepsStore, KeepsWrite, frame, given_on, shard_less, verdict_on}
@@ -25,7 +25,7 @@ module _ (store shards : ℕ) (left after : NodeName → List Record → Type 0)
     pub settled : (t place : ℕ) → IsSettled (left (shard t)) place → IsSettled (after (shard t)) place
     pub taken : (x : ℕ) → IsTaken shards left after now later false left now x → IsTaken shards left after now later false after later x
 
-  -- so it is where the shards are as they were, and a stop leaves no more of them
+  -- so it is if the shards are as they were, and a stop leaves no more of them
   module _ (same : (t : ℕ) → next.at (shard t) ≡ now.nodes.at (shard t)) (less : (t : ℕ) (rs : List Record) → after (shard t) rs → left (shard t) rs) where
     pub same_in_doubt : (t : ℕ) (found : List Record) → leaves after next (shard t) found → (old : List Record) × leaves left now.nodes (shard t) old × ((shard_state old).in_doubt ≡ (shard_state found).in_doubt)
     same_in_doubt t found is = (found, shard_less shards left after now later false same less t found is, refl)

@@ -29,7 +29,7 @@ module _ (store shards s : ℕ) (left after : NodeName → List Record → Type 
     pub up_with : (durable staged : List Record) → next.at (shard s) ≡ up durable staged → IsUpWith durable staged
     pub sound : (e : Refusal) → next.at (shard s) ≡ refused e → IsOfRefusedOpening e
 
-  -- so it is where it has these records
+  -- so it is if it has these records
   pub up_as : (records : List Record) → next.at (shard s) ≡ up records [] → IsUpWith records [] → (durable staged : List Record) → next.at (shard s) ≡ up durable staged → IsUpWith durable staged
   up_as records now_up it durable staged is = subst (λ (n : NodeState). IsUpWith (durable_in n) (staged_of n)) (sym now_up ∙ is) it
 
@@ -71,7 +71,7 @@ module _ (store shards s : ℕ) (left after : NodeName → List Record → Type 
         (λ ne. inl (m, record { durable = k.durable; staged = k.staged; is_up = sym (on.others.others (shard t) (other t ne)) ∙ k.is_up; replayed = k.replayed }, refl, refl))
         (same_or_not t s)
 
-    -- what holds of whatever a stop leaves of a shard goes on to hold, where no lower epoch and no less learned can change it
+    -- what holds of whatever a stop leaves of a shard still holds, if no lower epoch and no less learned can change it
     kept_of : (P : List Record → Type 0) → ((old rs : List Record) → (shard_state old).epoch ≤ (shard_state rs).epoch → (shard_state old).learned ≤ (shard_state rs).learned → P old → P rs)
         → (t : ℕ) → ((rs : List Record) → left (shard t) rs → P rs) → (rs : List Record) → after (shard t) rs → P rs
     kept_of P further t held rs is = ⊎_elim

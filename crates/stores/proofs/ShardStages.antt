@@ -1,4 +1,4 @@
--- A shard of a store that stands stages one record more: what is known of the nodes then.
+-- A shard of a store that stands stages one more record: what is known of the nodes then.
 use Rattle.std.proofs.Common.{◌≡◌, ◌≢◌, ◌⊎◌, inl, inr, ⊎_elim, ℕ, ◌<◌, ◌≤◌, List, [], ◌∷◌, ◌++◌, refl, sym, ◌∙◌, ap, subst, arith, append_assoc, append-nil}
 use Rattle.stores.proofs.Words.{CoordinatorKnows, CoordinatorState, Entry, IsGivenBy, IsOpen, IsRightVerdict, IsStaging, Moment, NodeName, NodeState, Nodes, Record, ShardKnows, ShardState, WasGiven, WriteId, coordinator, coordinator_state, down, leaves, refused, same_or_not, shard, shard_state, staged_of, up, with_nodes}
 use Rattle.laws.specs.ShardLaws.{IsEpochGiven}

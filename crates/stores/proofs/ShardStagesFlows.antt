@@ -1,4 +1,4 @@
--- A shard of a store that stands stages one record more: what flows hold stays right.
+-- A shard of a store that stands stages one more record: what flows hold stays right.
 use Rattle.std.proofs.Common.{◌≡◌, ◌⊎◌, inl, inr, ⊎_elim, ℕ, true, List, [], ◌∷◌, ◌++◌, Some, refl, sym, ◌∙◌, ap, subst, Bool, false, arith}
 use Rattle.std.proofs.lemmas.List.Elements.{All-append, All-cons, All-nil, Contains-append_left, Contains-append_right}
 use Rattle.stores.proofs.Words.{Entry, HeldTicket, HoldAfter, IsOpen, IsRight, IsRightOwn, IsRightTicket, IsStaging, IsUndecided, Moment, NodeName, Nodes, Record, Running, ShardKnows, ShardState, WriteHolds, find_in_doubt, id_of, leaves, part, shard, shard_state, takes_part, with_nodes}
@@ -8,7 +8,7 @@ use Rattle.stores.proofs.ShardStages.{is_open, left_now, longer, memory, memory_
 
 module _ (store shards : ℕ) (left : NodeName → List Record → Type 0) (now : Moment) (next : Nodes) (s : ℕ) (r : Record) (st : IsStaging store shards left now next s r) where
   -- What the record leaves of a write: what the shard has in doubt of it now it had before, or the record prepares it, and it is its part, whose
-  -- conditions hold where it is open; and where it is open the shard has its part in doubt if it had it before.
+  -- conditions hold if it is open; and if it is open the shard has its part in doubt if it had it before.
   pub record StagesDoubts (prepares : Bool) (w : Entry) : Type 0 where
     pub found : (p : Entry) → find_in_doubt w.id (shard_state (longer store shards left now next s r st)).in_doubt ≡ Some p
         → (find_in_doubt w.id (shard_state (memory store shards left now next s r st)).in_doubt ≡ Some p)
@@ -70,7 +70,7 @@ module _ (store shards : ℕ) (left : NodeName → List Record → Type 0) (now 
       };
     }
 
-    -- with a ticket of this shard more, what the flow holds is right though the record is a prepare of its write
+    -- with one more ticket of this shard, what the flow holds is right though the record is a prepare of its write
     pub kept_with_ticket : (f : Running) (h : WriteHolds) (t : HeldTicket) → t.shard ≡ s → IsRightTicket shards left (with_nodes now next) w t → IsUndecided shards left now w → IsRightOwn shards left now f w h
         → IsRightOwn shards left (with_nodes now next) f w (record h { tickets = h.tickets ++ t ∷ [] })
     kept_with_ticket f h t of_shard ticket u k = record {
@@ -92,6 +92,6 @@ module _ (store shards : ℕ) (left : NodeName → List Record → Type 0) (now 
           (left_now store shards left now next s r st j found is);
     }
 
-  -- what a flow holds is right, where its own write is kept
+  -- what a flow holds is right, if its own write is kept
   pub kept_flow : (f : Running) → ((w : Entry) → id_of f.holds ≡ Some w.id → StagesDoubts false w) → IsRight shards left now f f.asked f.holds → IsRight shards left (with_nodes now next) f f.asked f.holds
   kept_flow f stages = frame shards left left now (with_nodes now next) false keeps f f.asked f.holds (λ w is. keeps_write false w (stages w is))

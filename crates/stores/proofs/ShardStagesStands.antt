@@ -1,4 +1,4 @@
--- A shard of a store that stands stages one record more, and the store stands as before.
+-- A shard of a store that stands stages one more record, and the store stands as before.
 use Rattle.std.proofs.Common.{◌≡◌, ◌⊎◌, inl, inr, ⊎_elim, ℕ, ◌≤◌, List, [], ◌∷◌, ◌++◌, length, Some, Contains, refl, sym, ◌∙◌, ap, subst, arith, false}
 use Rattle.std.proofs.lemmas.List.Elements.{Contains-push_cases}
 use Rattle.stores.proofs.Words.{AreApart, AreNew, Entry, Epoch, FlowsStand, HeadsStand, IdsStand, IsOfRefusedOpening, IsStaging, ListedStand, LocksStand, Means, Moment, NodeName, NodeState, Nodes, NodesStand, Record, Refusal, Rests, Running, ShardMeans, Stands, WasGiven, at_shards, coordinator, doubts_apart, id_of, leaves, less_rests, refused, same_or_not, shard, shard_node, shard_state, staged_of, up, whole_rests, with_nodes}
@@ -7,7 +7,7 @@ use Rattle.stores.proofs.ShardStagesFlows.{StagesDoubts, kept_flow}
 pub use Rattle.tuples.proofs.Lists.{contained_at, contained_from}
 
 module _ (store shards : ℕ) (left : NodeName → List Record → Type 0) (now : Moment) (next : Nodes) (s : ℕ) (r : Record) (st : IsStaging store shards left now next s r) where
-  -- The record is no opening, leaves all nodes at rest, and prepares only what was given out.
+  -- The record is not an opening, leaves all nodes at rest, and prepares only what was given out.
   pub record IsHarmless : Type 1 where
     pub no_epoch : (epoch store' shards' node : ℕ) → r ≡ Epoch epoch store' shards' node → ⊥
     pub rests : (stops : List Record → Type 0) (kept : ℕ) → now.machine.kept ≤ kept → ((c : List Record) → stops c → leaves left now.nodes coordinator c)
@@ -18,7 +18,7 @@ module _ (store shards : ℕ) (left : NodeName → List Record → Type 0) (now 
     pub means : ShardMeans shards s now.machine.log now.machine.horizon now.machine.horizon (shard_state (memory store shards left now next s r st))
         → ShardMeans shards s now.machine.log now.machine.horizon now.machine.horizon (shard_state (longer store shards left now next s r st))
 
-  -- of the write of this flow the record prepares no part
+  -- the record prepares no part of this flow's write
   abbrev pub IsNoneOf : Running → Type 0
   IsNoneOf f = (w : Entry) → id_of f.holds ≡ Some w.id → StagesDoubts store shards left now next s r st false w
 

@@ -80,7 +80,7 @@ module _ (store shards : ℕ) (left : NodeName → List Record → Type 0) (now 
       after : shard_state (was ++ Dropped id ∷ []) ≡ shard_step (shard_state was) (Dropped id)
       after = shard_push was (Dropped id)
 
-  -- of another flow's write a prepare adds no doubt
+  -- a prepare adds no doubt of another flow's write
   of_others : (w : Entry) (st : IsStaging store shards left now next s (Prepare (part shards s w))) (v : Entry) → w.id ≢ v.id
       → StagesDoubts store shards left now next s (Prepare (part shards s w)) st false v
   unfolding shard_step part
@@ -96,7 +96,7 @@ module _ (store shards : ℕ) (left : NodeName → List Record → Type 0) (now 
       after : shard_state (was ++ Prepare (part shards s w) ∷ []) ≡ shard_step (shard_state was) (Prepare (part shards s w))
       after = shard_push was (Prepare (part shards s w))
 
-  -- of its own it adds its part, whose conditions hold
+  -- it adds its own part, whose conditions hold
   of_own : (w : Entry) (st : IsStaging store shards left now next s (Prepare (part shards s w))) → takes_part shards s w ≡ true → (IsOpen now.nodes w → HoldAfter now.machine.log (part shards s w).conditions)
       → StagesDoubts store shards left now next s (Prepare (part shards s w)) st true w
   unfolding shard_step part

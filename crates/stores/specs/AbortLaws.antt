@@ -22,7 +22,7 @@ use Rattle.stores.specs.Stands.{Stands}
 abbrev pub with_closed : Nodes → WriteId → Nodes
 with_closed nodes id = record nodes { open_writes = without id nodes.open_writes }
 
--- the flow of an aborted write behind the abort: its intent is spent, and it has the verdict
+-- the flow of an aborted write after the abort: its intent is spent, and it has the verdict
 abbrev pub with_verdict : Moment → Running → WriteHolds → Entry → Running
 with_verdict now r h w = record r {
   holds = writing (record h { intent = None; verdict = Some w.id });
@@ -49,21 +49,21 @@ pub record IsOutcome (now : Moment) (r : Running) (h : WriteHolds) (changes : Li
   pub epoch : memory.epoch ≡ d.epoch
   pub reached : d.place ≤ end_of kept
 
--- the coordinator finds an id at no place above its durable horizon, staged decisions among them, and no write with it open
+-- the coordinator finds an id at no place above its durable horizon, staged decisions included, and no write with it open
 pub record IsNotFound (nodes : Nodes) (kept memory : CoordinatorState) (id : WriteId) : Type 0 where
   pub knows : CoordinatorKnows nodes kept memory
   pub closed : (w : Entry) → IsOpen nodes w → w.id ≢ id
   pub none : (j : ℕ) (w : Entry) → slice_get memory.log j ≡ Some w → kept.horizon < memory.base + j + 1 → w.id ≢ id
 
--- The store has this id and so many shards, and a stop may leave this of each node, but for what is staged.
+-- The store has this id and this many shards, and a stop may leave this of each node, except for what is staged.
 module _ (store shards : ℕ) (left : NodeName → List Record → Type 0) where
-  -- a write that is aborted is open no longer, its flow has a verdict that is right, and the store stands
+  -- a write that is aborted is open no longer, its flow has a right verdict, and the store stands
   abbrev pub AbortsStand : Type 0
   AbortsStand = (now : Moment) (r : Running) (h : WriteHolds) (w : Entry) → Stands store shards left now → IsUndecidedFlow now r h w
       → let after = record now { nodes = with_closed now.nodes w.id; running = replaced (with_verdict now r h w) now.running } in
       Stands store shards left after × IsRightVerdict shards left after w.id
 
-  -- an id that was given out and is not found has a verdict that is right
+  -- an id that was given out and is not found has a right verdict
   abbrev pub InquiriesAbort : Type 0
   InquiriesAbort = (now : Moment) (kept memory : CoordinatorState) (id : WriteId) → Stands store shards left now → IsNotFound now.nodes kept memory id
       → WasGiven shards left now.nodes id → IsRightVerdict shards left now id
@@ -83,7 +83,7 @@ module _ (store shards : ℕ) (left : NodeName → List Record → Type 0) where
   RefusedIntents = (now : Moment) (r : Running) (h : WriteHolds) (w : Entry) (intent : IntentValue) → Stands store shards left now → IsUndecidedFlow now r h w
       → h.intent ≡ Some intent → (IsOpen now.nodes w → ⊥) → IsCutOff now.nodes r (writing h)
 
-  -- a flow with its intent, and with a ticket of a shard that has not the prepare, was cut off by an opening of the one or the other
+  -- a flow with its intent, and with a ticket of a shard that does not have the prepare, was cut off by an opening of the one or the other
   abbrev pub RefusedTickets : Type 0
   RefusedTickets = (now : Moment) (r : Running) (h : WriteHolds) (w : Entry) (intent : IntentValue) (t : HeldTicket) (memory : ShardState) → Stands store shards left now
       → IsUndecidedFlow now r h w → h.intent ≡ Some intent → Contains h.tickets t → ShardKnows now.nodes t.shard memory

@@ -36,13 +36,13 @@ use Rattle.stores.specs.Replies.{IsPlaceOf}
 abbrev pub NamesPlace : List Condition → ℕ → Type 0
 NamesPlace conditions place = (c : Condition) × Contains conditions c × (c.want ≡ NotAfter place)
 
--- a place above the length of the log was asked for
+-- a place above the end of the log was asked for
 abbrev pub WantsFuture : ℕ → Freshness → Type 0
 WantsFuture n latest = ⊥
 WantsFuture n (at_least z) = n < z
 WantsFuture n (exact z) = n < z
 
--- Future: what was asked names a place above the length of the log, or, to raise the horizon, one above the kept place
+-- Future: what was asked names a place above the end of the log, or, to raise the horizon, one above the kept place
 abbrev pub IsFuture : Machine → Asked → Type 0
 IsFuture m (to_write changes conditions) = (place : ℕ) × NamesPlace conditions place × (length m.log < place)
 IsFuture m (to_read fresh sets) = WantsFuture (length m.log) fresh
@@ -54,7 +54,7 @@ IsFuture m (to_resolve s) = ⊥
 IsFuture m (to_raise x) = m.kept < x
 IsFuture m (to_collect s) = ⊥
 
--- the flow has found this place, which was kept behind one of its turns, and has fallen below the horizon since
+-- the flow has found this place, which was kept after one of its turns, and has since fallen below the horizon
 abbrev pub HasFallenBelow : ℕ → Running → ℕ → Type 0
 HasFallenBelow h r s = (place_of r.holds ≡ Some s) × WasKept r s × (s < h)
 
@@ -76,7 +76,7 @@ IsBelow h r (to_resolve s) = ⊥
 IsBelow h r (to_raise x) = x < h
 IsBelow h r (to_collect s) = ⊥
 
--- the tuple's shard, of so many, is up and knows this
+-- the tuple's shard, of this many, is up and knows this
 abbrev pub OwnerKnows : ℕ → Nodes → Tuple → ShardState → Type 0
 OwnerKnows shards nodes t memory = ShardKnows nodes (shard_of shards t.object) memory
 
@@ -101,7 +101,7 @@ IsBusy shards n now own (to_write changes conditions) = (t : Tuple) × Contains 
     × IsHeldByOther shards now.nodes own t
 IsBusy shards n now own asked = ⊥
 
--- the coordinator was opened since it gave this id: since the flow began, and in a later epoch where it is up
+-- the coordinator was opened since it gave this id: since the flow began, and in a later epoch if it is up
 pub record IsLost (nodes : Nodes) (r : Running) (id : WriteId) : Type 0 where
   pub reopened : r.is_reopened ≡ true
   pub later : (kept memory : CoordinatorState) → CoordinatorKnows nodes kept memory → id.epoch < memory.epoch
@@ -117,7 +117,7 @@ abbrev pub IsUnsure : Nodes → Running → Type 0
 IsUnsure nodes r = (d : DecidedValue) × (r.decided ≡ Some d)
     × ((kept memory : CoordinatorState) → CoordinatorKnows nodes kept memory → d.epoch < memory.epoch)
 
--- the shards of which a tupleset asks: the one with its object, or each in its turn, where the ones below a number were asked
+-- the shards that a tupleset asks: the one with its object, or each in its turn, once the ones below it were asked
 abbrev pub Needs : ℕ → Tupleset → ℕ → ℕ → Type 0
 Needs shards (Key t) below s = s ≡ shard_of shards t.object
 Needs shards (OfObject o relation) below s = s ≡ shard_of shards o
@@ -149,7 +149,7 @@ CallsShard shards (to_resolve t) holds s = s ≡ t
 CallsShard shards (to_raise x) holds s = Unit {0}
 CallsShard shards (to_collect t) holds s = s ≡ t
 
--- a flow that holds this may call this node next: the coordinator, save where a shard is to be flushed, or a shard
+-- a flow that holds this may call this node next: the coordinator, unless a shard is to be flushed, or a shard
 abbrev pub Calls : ℕ → Asked → Holds → NodeName → Type 0
 Calls shards asked holds coordinator = (s : ℕ) → asked ≡ to_flush (shard s) → ⊥
 Calls shards asked holds (shard s) = (s < shards) × CallsShard shards asked holds s
@@ -158,12 +158,12 @@ Calls shards asked holds (shard s) = (s < shards) × CallsShard shards asked hol
 abbrev pub IsDown : Nodes → NodeName → Type 0
 IsDown nodes n = (nodes.at n ≡ down) ⊎ (nodes.at n ≡ refused Down)
 
--- a flow takes memory, a flush where it is a checkpoint: each but a collection
+-- a flow takes memory: each but a collection, and a flush only if it is a checkpoint
 abbrev pub TakesMemory : Asked → Type 0
 TakesMemory (to_collect s) = ⊥
 TakesMemory asked = Unit {0}
 
--- a write is the one that a flow was asked for, under the id that it holds
+-- a write is the one that a flow was asked to make, under the id that it holds
 pub record IsOwnWrite (asked : Asked) (own : Option WriteId) (w : Entry) : Type 0 where
   pub asks : asked ≡ to_write w.changes w.conditions
   pub id : own ≡ Some w.id
@@ -175,15 +175,15 @@ LetsLearn (to_watch c limit names) = ⊥
 LetsLearn (to_collect s) = ⊥
 LetsLearn asked = Unit {0}
 
--- What shard s, which knows these records, learns: of the log's writes behind those that it has learned, up to a kept place, the ones in which it takes
+-- What shard s, which knows these records, learns: of the log's writes after those that it has learned, up to a kept place, the ones in which it takes
 -- part, each with its place.
 pub record IsToLearn (shards s : ℕ) (m : Machine) (known : List Record) (to : ℕ) (placed_ids : List PlacedId) : Type 0 where
   pub more : (shard_state known).learned < to
   pub kept : to ≤ m.kept
   pub placed : placed_ids ≡ placed_ids_from shards s ((shard_state known).learned + 1) (take (to - (shard_state known).learned) (drop (shard_state known).learned m.log))
 
--- A flow of a write with this id, if it has one, stages such a record at a node that knows these: at the coordinator its decision, or a raise its
--- horizon; at a shard its part, what is to be learned there, or a collection its horizon. A drop that finds no room is left for later, and nobody is told.
+-- A flow of a write with this id, if it has one, stages such a record at a node that knows these: at the coordinator its decision, or a raise its horizon;
+-- at a shard its part, what is to be learned there, or a collection its horizon. A drop that finds no room is left for later, and is not reported.
 abbrev pub Stages : ℕ → Machine → List Record → Asked → Option WriteId → NodeName → Record → Type 0
 Stages shards m known asked own coordinator (Decision place w) = IsOwnWrite asked own w
 Stages shards m known asked own coordinator (Horizon place) = asked ≡ to_raise place
@@ -223,8 +223,8 @@ IsFull shards n now r (to_check fresh x u) = HasFullBatch shards n now r
 IsFull shards n now r (to_flush m) = HasFullBatch shards n now r ⊎ HasLastGeneration shards n now r
 IsFull shards n now r asked = HasFullBatch shards n now r
 
--- The cause of a refusal by this node, which the turn calls, and which is open, seen before the call and, of what fails in it, behind it. Requests were
--- tested before they became flows, so the first six have none; memory needs none where some is taken; and no node of a store that stands is damaged.
+-- The cause of a refusal by this node, which the turn calls, and which is open, seen before the call and, for what fails in it, after it. Requests were
+-- tested before they became flows, so the first six have none; memory needs none if some is taken; and no node of a store that stands is damaged.
 abbrev pub IsCause : ℕ → NodeName → Moment → Moment → Running → Refusal → Type 0
 IsCause shards n before after r BadRequest = ⊥
 IsCause shards n before after r BadTuple = ⊥

@@ -1,4 +1,4 @@
--- Laws of a decision: what a store stands for once the coordinator has staged it, but for the flow that decides.
+-- Laws of a decision: what a store stands for once the coordinator has staged it, except for the flow that decides.
 use Rattle.std.specs.Prelude.{◌≡◌, ◌≢◌, ◌≤◌, ◌<◌, ◌+◌, ℕ, true, None, List, [], ◌∷◌, ◌++◌, length, All, Contains, Some}
 use Rattle.tuples.specs.declared.entry.Entry.{Entry}
 use Rattle.tuples.specs.declared.entry.WriteId.{WriteId}
@@ -30,7 +30,7 @@ pub record StagesDecision (place : ℕ) (w : Entry) (old new : Nodes) : Type 0 w
   pub open_writes : new.open_writes ≡ without w.id old.open_writes
   pub given : new.given ≡ old.given
 
--- the machine with one write more
+-- the machine with one more write
 abbrev pub with_write : Machine → Entry → Machine
 with_write m w = record m { log = m.log ++ w ∷ [] }
 
@@ -38,7 +38,7 @@ with_write m w = record m { log = m.log ++ w ∷ [] }
 abbrev pub with_decision : Moment → Nodes → Entry → Moment
 with_decision now next w = record now { nodes = next; machine = with_write now.machine w }
 
--- The store has this id and so many shards, and a stop may leave this of each node, but for what is staged.
+-- The store has this id and this many shards, and a stop may leave this of each node, except for what is staged.
 module _ (store shards : ℕ) (left : NodeName → List Record → Type 0) where
   -- the coordinator of a store that stands stages a decision of a whole write that is open, prepared in whatever a stop leaves, and whose
   -- conditions hold
@@ -51,7 +51,7 @@ module _ (store shards : ℕ) (left : NodeName → List Record → Type 0) where
     pub prepared : IsPreparedInAll shards (at_shards (leaves left now.nodes)) w
     pub conditions : HoldAfter now.machine.log w.conditions
 
-  -- what the store stands for, but for the flow of the write with this id
+  -- what the store stands for, except for the flow of the write with this id
   pub record StandsButFor (id : WriteId) (now : Moment) : Type 0 where
     pub rests : Rests store shards now.machine.log now.machine.kept now.machine.horizon (leaves left now.nodes coordinator) (at_shards (leaves left now.nodes))
     pub nodes : NodesStand store shards left now.nodes
@@ -62,7 +62,7 @@ module _ (store shards : ℕ) (left : NodeName → List Record → Type 0) where
     pub flows : (f : Running) → Contains now.running f → id_of f.holds ≢ Some id → IsRight shards left now f f.asked f.holds
     pub told : All (IsRightVerdict shards left now) now.told
 
-  -- with one write more in the log, all but the flow that decides stands as before
+  -- with one more write in the log, all but the flow that decides stands as before
   abbrev pub DecisionsStand : Type 0
   DecisionsStand = (now : Moment) (next : Nodes) (place : ℕ) (w : Entry) → IsDeciding now next place w
       → StandsButFor w.id (with_decision now next w)
@@ -76,7 +76,7 @@ module _ (store shards : ℕ) (left : NodeName → List Record → Type 0) where
       → ((s : ℕ) → s < shards → takes_part shards s w ≡ true → (v : HeldVote) × Contains votes v × (v.shard ≡ s))
       → IsPreparedInAll shards (at_shards (leaves left now.nodes)) w × HoldAfter now.machine.log w.conditions
 
-  -- what the flow that decides holds after it: the decision in place of the intent and the votes
+  -- what the flow that decides holds after it: the decision instead of the intent and the votes
   abbrev pub with_place : WriteHolds → DecidedValue → WriteHolds
   with_place h d = record h { intent = None; votes = []; decided = Some d }
 
@@ -95,7 +95,7 @@ module _ (store shards : ℕ) (left : NodeName → List Record → Type 0) where
     pub id : h.id ≡ Some w.id
     pub onward_still : h.way ≡ onward
 
-  -- the flow behind its decision
+  -- the flow after its decision
   abbrev pub with_decided : Moment → Running → WriteHolds → Entry → Running
   with_decided now r h w =
       let d : DecidedValue = record { place = length now.machine.log + 1; epoch = w.id.epoch } in

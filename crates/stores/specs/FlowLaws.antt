@@ -1,4 +1,4 @@
--- Laws of flows that begin, of writes that begin, and of flows that end: the store goes on to stand for the same machine.
+-- Laws of flows that begin, of writes that begin, and of flows that end: the store still stands for the same machine.
 use Rattle.std.specs.Prelude.{◌≡◌, ◌<◌, ◌+◌, ℕ, List, [], ◌∷◌, ◌++◌, length, Some, None, Contains}
 use Rattle.tuples.specs.declared.entry.Entry.{Entry}
 use Rattle.tuples.specs.Limits.{max_flows, max_open}
@@ -10,7 +10,7 @@ use Rattle.stores.specs.Held.{IsRight}
 use Rattle.stores.specs.Moments.{Moment, Running, begun, ended, flow_at, replaced}
 use Rattle.stores.specs.Stands.{HasSeenBelow, IsQuietFlow, Stands}
 
--- the moment with a flow more, in this slot
+-- the moment with one more flow, in this slot
 abbrev pub with_flow : Moment → ℕ → Asked → Moment
 with_flow now slot asked = record now { running = begun slot asked ∷ now.running; named = named_by asked ++ now.named }
 
@@ -18,9 +18,9 @@ with_flow now slot asked = record now { running = begun slot asked ∷ now.runni
 abbrev pub without_flow : Moment → ℕ → Moment
 without_flow now slot = record now { running = ended slot now.running }
 
--- The store has this id and so many shards, and a stop may leave this of each node, but for what is staged.
+-- The store has this id and this many shards, and a stop may leave this of each node, except for what is staged.
 module _ (store shards : ℕ) (left : NodeName → List Record → Type 0) where
-  -- a flow begins in a free slot, where fewer than 1,024 run
+  -- a flow begins in a free slot, if fewer than 1,024 run
   abbrev pub FlowsBegin : Type 0
   FlowsBegin = (now : Moment) (slot : ℕ) (asked : Asked) → flow_at slot now.running ≡ None → length now.running < max_flows
       → Stands store shards left now → Stands store shards left (with_flow now slot asked)
@@ -47,7 +47,7 @@ module _ (store shards : ℕ) (left : NodeName → List Record → Type 0) where
     pub unbegun : h.id ≡ None
     pub undecided : r.decided ≡ None
 
-  -- the flow behind it, with its intent
+  -- the flow after it, with its intent
   abbrev pub with_intent : Moment → Running → WriteHolds → Entry → Running
   with_intent now r h w = record r {
     holds = writing (record h { id = Some w.id; intent = Some (record { write = w; kept = now.machine.kept }) });

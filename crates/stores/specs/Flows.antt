@@ -12,8 +12,8 @@ pub use Rattle.tuples.specs.Limits.{max_asked, max_walked, max_watched}
 pub use Rattle.decisions.specs.Flows.{Freshness, latest, at_least, exact, HeldTicket, HeldVote, Way, onward, outward, WriteHolds, ReadHolds, CheckHolds, HeadsHeld, Resolved, committed, aborted, undecided, ResolveHolds, RaiseHolds, nothing_begun, no_heads, nothing_read, nothing_raised}
 use Rattle.laws.specs.Nodes.{IsThere, NodeName}
 
--- What a flow is asked: to write; to read, to check, to watch from a place on, so many places, in these namespaces; or to care for the
--- nodes: flush one, let a shard learn, resolve what it has in doubt, raise the horizon to a place, collect a shard.
+-- What a flow is asked: to write; to read, to check, to watch from a place on, this many places, in these namespaces; or to care for
+-- the nodes: flush one, let a shard learn, resolve what it has in doubt, raise the horizon to a place, collect a shard.
 pub data Asked : Type 0 where
   to_write : List Change → List Condition → Asked
   to_read : Freshness → List Tupleset → Asked

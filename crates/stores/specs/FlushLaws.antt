@@ -1,4 +1,4 @@
--- Laws of a flush. Whatever a shard's flush answers, the store goes on to stand for the same machine; the coordinator's keeps the whole log.
+-- Laws of a flush. Whatever a shard's flush answers, the store still stands for the same machine; the coordinator's keeps the whole log.
 use Rattle.std.specs.Prelude.{◌≡◌, ◌≢◌, ◌⊎◌, ◌↔◌, ℕ, List, [], ◌++◌, length, Some}
 use Rattle.records.specs.declared.record.Record.{Record}
 use Rattle.records.specs.Coordinators.{IsCoordinatorImage, coordinator_state}
@@ -20,7 +20,7 @@ abbrev pub HasOldOrSame : NodeName → List Record → List Record → List ℕ 
 HasOldOrSame n durable staged a b = (rs : List Record) × (found a b ≡ Some rs) × IsOldOrSame n durable staged rs
 
 -- A flush of a shard that is up: from then on a stop leaves its durable records, or those with what was staged, or others that stand for the same as
--- these. Where it answered Ok, the shard is up with such records and a stop leaves them alone; else it is down.
+-- these. If it answered Ok, the shard is up with such records and a stop leaves them alone; else it is down.
 pub record FlushesShard (s : ℕ) (left after : NodeName → List Record → Type 0) (old new : Nodes) : Type 0 where
   pub durable : List Record
   pub staged : List Record
@@ -76,7 +76,7 @@ pub record FailsFlush (left after : NodeName → List Record → Type 0) (old ne
   pub same : (s : ℕ) (found : List Record) → after (shard s) found ↔ left (shard s) found
   pub here : (found : List Record) → after coordinator found → IsOldOrSame coordinator durable staged found
 
--- the store goes on to stand for the same machine
+-- the store still stands for the same machine
 abbrev pub FailedFlushesStand : ℕ → ℕ → (NodeName → List Record → Type 0) → (NodeName → List Record → Type 0) → Type 0
 FailedFlushesStand store shards left after = (now : Moment) (next : Nodes) → Stands store shards left now
     → FailsFlush left after now.nodes next → Stands store shards after (with_nodes now next)

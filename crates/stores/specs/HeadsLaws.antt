@@ -16,14 +16,14 @@ use Rattle.laws.specs.Nodes.{CoordinatorKnows, NodeName, ShardKnows, leaves, sha
 use Rattle.stores.specs.Replies.{IsWatchAnswer}
 use Rattle.stores.specs.Stands.{HasSeenBelow, Stands, at_shards}
 
--- The store has this id and so many shards, and a stop may leave this of each node, but for what is staged.
+-- The store has this id and this many shards, and a stop may leave this of each node, except for what is staged.
 module _ (store shards : ℕ) (left : NodeName → List Record → Type 0) where
   -- the kept place and the durable horizon of a coordinator that is up are right heads of a flow that has seen the machine
   abbrev pub HeadsAreRight : Type 0
   HeadsAreRight = (now : Moment) (r : Running) (kept memory : CoordinatorState) (heads : HeadsValue) → Stands store shards left now → CoordinatorKnows now.nodes kept memory
       → Contains r.seen now.machine → HasSeenBelow now.machine r → heads.kept ≡ end_of kept → heads.horizon ≡ kept.horizon → AreRightHeads r now.machine heads
 
-  -- durable decisions behind a place, as many as one likes, are a right batch
+  -- durable decisions after a place, any number of them, are a right batch
   abbrev pub BatchesAreRight : Type 0
   BatchesAreRight = (now : Moment) (kept memory : CoordinatorState) (b : BatchValue) (most : ℕ) → Stands store shards left now → CoordinatorKnows now.nodes kept memory
       → kept.base ≤ b.from → b.from ≤ end_of kept → b.writes ≡ take most (drop (b.from - kept.base) kept.log) → IsRightBatch now.machine b
@@ -46,7 +46,7 @@ module _ (store shards : ℕ) (left : NodeName → List Record → Type 0) where
       → All (IsRightSettled shards left place) settled → ((s : ℕ) → s < shards → (v : SettledValue) × Contains settled v × (v.shard ≡ s))
       → IsLearnedInAll shards (at_shards (leaves left now.nodes)) place
 
-  -- a watch that holds heads, and gets the decisions from its cursor on, as many as its limit or its heads let it, answers what agrees
+  -- a watch that holds heads, and gets the decisions from its cursor on, as many as its limit or its heads allow, answers what agrees
   abbrev pub WatchesAgree : Type 0
   WatchesAgree = (now : Moment) (r : Running) (c limit : ℕ) (names : List (List ℕ)) (heads : HeadsValue) (b : BatchValue) → AreRightHeads r now.machine heads → IsRightBatch now.machine b
       → heads.horizon ≤ c → c ≤ heads.kept → b.from ≡ c → length b.writes ≡ min (c + limit) heads.kept - c

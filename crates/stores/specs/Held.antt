@@ -28,13 +28,13 @@ use Rattle.stores.specs.Flows.{Freshness, Asked, to_write, to_read, to_check, to
 use Rattle.stores.specs.Moments.{Moment, Running, SawFirst, WasKept}
 use Rattle.stores.specs.Replies.{IsPlaceOf, IsResolved}
 
--- decisions on their way to a shard: those of the log behind a place, all of them kept
+-- decisions on their way to a shard: those of the log after a place, all of them kept
 pub record IsRightBatch (m : Machine) (b : BatchValue) : Type 0 where
   pub kept : b.from ≤ m.kept
   pub within : length b.writes ≤ m.kept - b.from
   pub writes : AreOfLog m.log b.from b.writes
 
--- heads: a place that was kept behind one of the flow's turns, and a durable horizon, no lower than the one behind its first turn
+-- heads: a place that was kept after one of the flow's turns, and a durable horizon, no lower than the one after its first turn
 pub record AreRightHeads (r : Running) (m : Machine) (heads : HeadsValue) : Type 0 where
   pub was : WasKept r heads.kept
   pub kept : heads.kept ≤ m.kept
@@ -58,7 +58,7 @@ IsOpen nodes w = Contains nodes.open_writes w
 abbrev pub HoldsOf : WriteHolds → ℕ → Type 0
 HoldsOf h s = ((t : HeldTicket) × Contains h.tickets t × (t.shard ≡ s)) ⊎ ((v : HeldVote) × Contains h.votes v × (v.shard ≡ s))
 
--- The store has so many shards, and a stop may leave this of each node.
+-- The store has this many shards, and a stop may leave this of each node.
 module _ (shards : ℕ) (left : NodeName → List Record → Type 0) where
   -- An id that was given out: each stop leaves an epoch at or above its own, and a coordinator that is up gave it.
   pub record WasGiven (nodes : Nodes) (id : WriteId) : Type 0 where
@@ -79,7 +79,7 @@ module _ (shards : ℕ) (left : NodeName → List Record → Type 0) where
     pub exact : (s : ℕ) (found : List Record) (p : Entry) → s < shards → leaves left now.nodes (shard s) found
         → find_in_doubt w.id (shard_state found).in_doubt ≡ Some p → (takes_part shards s w ≡ true) × (p ≡ part shards s w)
 
-  -- A ticket is of the flow's own write, of a shard that takes part in it, and of an epoch of that shard. Where the write is open and the
+  -- A ticket is of the flow's own write, of a shard that takes part in it, and of an epoch of that shard. If the write is open and the
   -- shard is still up in that epoch, it has the prepare.
   pub record IsRightTicket (now : Moment) (w : Entry) (t : HeldTicket) : Type 0 where
     pub own : t.id ≡ w.id
@@ -89,8 +89,8 @@ module _ (shards : ℕ) (left : NodeName → List Record → Type 0) where
     pub prepared : IsOpen now.nodes w → (memory : ShardState) → ShardKnows now.nodes t.shard memory → memory.epoch ≡ t.epoch
         → find_in_doubt t.id memory.in_doubt ≡ Some (part shards t.shard w)
 
-  -- A vote is of the flow's own write, and of a shard that takes part in it. Where the write is open, that shard has its prepare, whatever
-  -- a stop leaves, with what is staged or without.
+  -- A vote is of the flow's own write, and of a shard that takes part in it. If the write is open, that shard has its prepare, whatever a
+  -- stop leaves, with what is staged or without.
   pub record IsRightVote (now : Moment) (w : Entry) (v : HeldVote) : Type 0 where
     pub own : v.id ≡ w.id
     pub there : v.shard < shards
@@ -139,8 +139,8 @@ module _ (shards : ℕ) (left : NodeName → List Record → Type 0) where
     pub decided : h.decided ≡ None
     pub verdict : h.verdict ≡ None
 
-  -- What a write flow holds. It holds a decision where it has made one. On its way out it has made none, and has met the refusal that it will
-  -- answer, which is not Unsure; it goes out where it was cancelled before the decision.
+  -- What a write flow holds. It holds a decision once it has made one. On its way out it has made none, and has met the refusal that it will
+  -- answer, which is not Unsure. If it was cancelled before the decision, it goes out.
   pub record IsRightWrite (now : Moment) (r : Running) (changes : List Change) (conditions : List Condition) (h : WriteHolds) : Type 0 where
     pub nothing : h.id ≡ None → HoldsNothing h
     pub own : (id : WriteId) → h.id ≡ Some id → IsRightOwn now r (own_write id changes conditions) h
@@ -199,7 +199,7 @@ module _ (shards : ℕ) (left : NodeName → List Record → Type 0) where
     pub is_up : nodes.at coordinator ≡ up durable staged
     pub enough : x ≤ (coordinator_state (durable ++ staged)).horizon
 
-  -- What a raise to x holds. Once the coordinator has taken it, the horizon is at x, or a record of it is staged; save where the
+  -- What a raise to x holds. Once the coordinator has taken it, the horizon is at x, or a record of it is staged; unless the
   -- coordinator went down or was opened since.
   pub record IsRightRaise (now : Moment) (r : Running) (x : ℕ) (h : RaiseHolds) : Type 0 where
     pub named : Contains now.named x

@@ -7,7 +7,7 @@ use Rattle.laws.specs.Machines.{Machine}
 use Rattle.laws.specs.Nodes.{Nodes}
 use Rattle.stores.specs.Flows.{Asked, Holds, nothing_held, to_write, to_read, to_check, to_watch, to_flush, to_learn, to_resolve, to_raise, to_collect}
 
--- A flow that runs: its slot, what it is asked and what it holds; the machine behind each of its turns so far; the decision that it made;
+-- A flow that runs: its slot, what it is asked and what it holds; the machine after each of its turns so far; the decision that it made;
 -- the refusal that a call gave it; whether it was cancelled; and whether the coordinator was opened since it began.
 pub record Running : Type 0 where
   pub slot : ℕ
@@ -32,8 +32,8 @@ begun slot asked = record {
   is_reopened = false;
 }
 
--- The machine; the nodes; the flows that run; the ids of which someone was told that they are aborted; and the places to which a flow
--- was asked to raise the horizon.
+-- The machine; the nodes; the flows that run; the ids that someone was told are aborted; and the places to which a flow was asked to
+-- raise the horizon.
 pub record Moment : Type 0 where
   pub machine : Machine
   pub nodes : Nodes
@@ -46,7 +46,7 @@ abbrev pub flow_at : ℕ → List Running → Option Running
 flow_at slot [] = None
 flow_at slot (r ∷ rs) = if r.slot == slot then Some r else flow_at slot rs
 
--- the flows with this one in place of the one in its slot
+-- the flows with this one instead of the one in its slot
 abbrev pub replaced : Running → List Running → List Running
 replaced r [] = []
 replaced r (q ∷ rs) = if q.slot == r.slot then r ∷ rs else q ∷ replaced r rs
@@ -72,10 +72,10 @@ is_write (to_resolve s) = false
 is_write (to_raise x) = false
 is_write (to_collect s) = false
 
--- the kept place was s behind one of its turns
+-- the kept place was s after one of its turns
 abbrev pub WasKept : Running → ℕ → Type 0
 WasKept r s = (m : Machine) × Contains r.seen m × (m.kept ≡ s)
 
--- the machine behind its first turn
+-- the machine after its first turn
 abbrev pub SawFirst : Running → Machine → Type 0
 SawFirst r m = slice_get r.seen 0 ≡ Some m

@@ -1,4 +1,4 @@
--- Laws of a shard's opening: the store goes on to stand for the same machine, with the same flows.
+-- Laws of a shard's opening: the store still stands for the same machine, with the same flows.
 use Rattle.std.specs.Prelude.{◌≡◌, ◌≢◌, ◌↔◌, ℕ, List, [], ◌∷◌, ◌++◌}
 use Rattle.records.specs.declared.record.Record.{Record}
 use Rattle.records.specs.declared.record.Record.TheVariants.{Epoch}

@@ -1,4 +1,4 @@
--- A law of a raised horizon: with its record staged the store goes on to stand for the same machine, until a flush.
+-- A law of a raised horizon: with its record staged the store still stands for the same machine, until a flush.
 use Rattle.std.specs.Prelude.{◌≡◌, ℕ, List, [], ◌∷◌, ◌++◌}
 use Rattle.records.specs.declared.record.Record.{Record}
 use Rattle.records.specs.declared.record.Record.TheVariants.{Horizon}

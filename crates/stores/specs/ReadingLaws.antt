@@ -24,7 +24,7 @@ abbrev pub ShardRowsShowSnapshots : Type 0
 ShardRowsShowSnapshots = (shards s : ℕ) (log : List Entry) (hc h : ℕ) (state : ShardState) (place : ℕ) (t : Tuple) → IsLog log → ShardMeans shards s log hc h state
     → state.horizon ≤ place → place ≤ state.learned → there_at state.rows place t ≡ there_of shards s log place t
 
--- what that shard's tuples are selected is what all are
+-- what is selected of that shard's tuples is what is selected of all
 abbrev pub OneShardIsEnough : Type 0
 OneShardIsEnough = (shards s : ℕ) (log : List Entry) (place : ℕ) (q : Tupleset) (rows : List Tuple) → NeedsOnly shards q s
     → IsSelection (there_of shards s log place) q rows → IsSelection (is_at log place) q rows
@@ -42,7 +42,7 @@ pub record IsReading (sets : List Tupleset) (h : ReadHolds) (place : ℕ) (q : T
   pub at_place : h.place ≡ Some place
   pub next : slice_get sets (length h.done) ≡ Some q
 
--- The store has this id and so many shards, and a stop may leave this of each node, but for what is staged.
+-- The store has this id and this many shards, and a stop may leave this of each node, except for what is staged.
 module _ (store shards : ℕ) (left : NodeName → List Record → Type 0) where
   -- a shard's answer at a kept place is what the tupleset selects of its tuples; a stop leaves some records of the coordinator
   abbrev pub RepliesSelect : Type 0

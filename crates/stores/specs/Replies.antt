@@ -66,7 +66,7 @@ pub record IsCheckAnswer (fresh : Freshness) (x : Userset) (u : User) (r : Runni
   pub place : IsPlaceOf fresh r m s
   pub member : IsTrue answer ↔ IsMember (is_at m.log s) u x
 
--- a watch's answer: all events from its cursor to the heartbeat, which lies the limit behind it or at the kept place
+-- a watch's answer: all events from its cursor to the heartbeat, which lies the limit after it or at the kept place
 pub record IsWatchAnswer (c limit : ℕ) (names : List (List ℕ)) (r : Running) (m : Machine) (e : ℕ) (events_listed : List Placed) : Type 0 where
   pub kept : ℕ
   pub was : WasKept r kept
@@ -87,7 +87,7 @@ abbrev pub IsFlushed : NodeName → Machine → Type 0
 IsFlushed coordinator m = m.kept ≡ length m.log
 IsFlushed (shard s) m = Unit {0}
 
--- a shard's learning is done: it has learned up to a place that was the kept one behind one of the flow's turns
+-- a shard's learning is done: it has learned up to a place that was the kept one after one of the flow's turns
 pub record IsLearnAnswer (s : ℕ) (r : Running) (now : Moment) : Type 0 where
   pub kept : ℕ
   pub was : WasKept r kept

@@ -1,4 +1,4 @@
--- Laws of a shard that stages one record more: the store goes on to stand for the same machine, with the same flows.
+-- Laws of a shard that stages one more record: the store still stands for the same machine, with the same flows.
 use Rattle.std.specs.Prelude.{◌≡◌, ◌≤◌, ◌<◌, ◌+◌, ℕ, true, List, [], ◌∷◌, ◌++◌, length, Some, None, Contains}
 use Rattle.tuples.specs.declared.entry.Entry.{Entry}
 use Rattle.tuples.specs.declared.entry.WriteId.{WriteId}
@@ -16,7 +16,7 @@ use Rattle.stores.specs.Held.{IsOpen, IsRightBatch, IsRightTicket, IsRightVerdic
 use Rattle.stores.specs.Moments.{Moment, Running, replaced}
 use Rattle.stores.specs.Stands.{Stands}
 
--- a node that is up stages one record more, and nothing else is changed
+-- a node that is up stages one more record, and nothing else is changed
 pub record StagesAt (n : NodeName) (r : Record) (old new : Nodes) : Type 0 where
   pub durable : List Record
   pub staged : List Record
@@ -39,16 +39,16 @@ pub record IsFlowOf (now : Moment) (r : Running) (w : Entry) : Type 0 where
   pub id : id_of r.holds ≡ Some w.id
   pub undecided : r.decided ≡ None
 
--- The store has this id and so many shards, and a stop may leave this of each node, but for what is staged.
+-- The store has this id and this many shards, and a stop may leave this of each node, except for what is staged.
 module _ (store shards : ℕ) (left : NodeName → List Record → Type 0) where
-  -- a shard of a store that stands stages one record more, and its records are still a shard's
+  -- a shard of a store that stands stages one more record, and its records are still a shard's
   pub record IsStaging (now : Moment) (next : Nodes) (s : ℕ) (r : Record) : Type 0 where
     pub stands : Stands store shards left now
     pub there : s < shards
     pub step : StagesAt (shard s) r now.nodes next
     pub image : IsShardImage (shard_node store shards s) ((step.durable ++ step.staged) ++ r ∷ [])
 
-  -- the shard's part of a flow's write, whose conditions hold after the log where the write is open: in the same step the flow is given a ticket for it
+  -- the shard's part of a flow's write, whose conditions hold after the log if the write is open: in the same step the flow is given a ticket for it
   abbrev pub PreparesStand : Type 0
   PreparesStand = (now : Moment) (next : Nodes) (s : ℕ) (w : Entry) (r : Running) (h : WriteHolds) (t : HeldTicket) → IsStaging now next s (Prepare (part shards s w))
       → IsFlowOf now r w → r.holds ≡ writing h → takes_part shards s w ≡ true → (IsOpen now.nodes w → HoldAfter now.machine.log (part shards s w).conditions)

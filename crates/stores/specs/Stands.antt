@@ -27,11 +27,11 @@ at_shards leaves_at s = leaves_at (shard s)
 abbrev pub HasSeenBelow : Machine → Running → Type 0
 HasSeenBelow now r = (m : Machine) → Contains r.seen m → (m.kept ≤ now.kept) × (m.horizon ≤ now.horizon)
 
--- a flow that is no write has decided nothing, and is not cancelled: it ends where it is
+-- a flow other than a write has decided nothing, and is not cancelled: a cancelled one ends
 abbrev pub IsQuietFlow : Running → Type 0
 IsQuietFlow r = is_write r.asked ≡ false → (r.decided ≡ None) × (r.is_cancelled ≡ false)
 
--- The store has this id and so many shards, and a stop may leave this of each node, but for what is staged.
+-- The store has this id and this many shards, and a stop may leave this of each node, except for what is staged.
 module _ (store shards : ℕ) (left : NodeName → List Record → Type 0) where
   -- A node that is up: a stop leaves its durable records and no others, and its opening is among them. One whose opening was refused
   -- is so for Down, NoMemory or Full: no node is damaged.
@@ -68,7 +68,7 @@ module _ (store shards : ℕ) (left : NodeName → List Record → Type 0) where
         → Contains (shard_state found).in_doubt w → WasGiven shards left nodes w.id
 
   -- Flows: each has a slot of its own, a write of its own, and holds what is right. What a flow has seen lies at or below what is there now; and
-  -- one that is no write has decided nothing and is not cancelled.
+  -- one other than a write has decided nothing and is not cancelled.
   pub record FlowsStand (now : Moment) : Type 0 where
     pub few : length now.running ≤ max_flows
     pub slots : (i j : ℕ) (q r : Running) → slice_get now.running i ≡ Some q → slice_get now.running j ≡ Some r → q.slot ≡ r.slot → i ≡ j

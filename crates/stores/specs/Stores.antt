@@ -22,8 +22,8 @@ pub record FlowView : Type 0 where
   pub holds : Holds
   pub is_cancelled : Bool
 
--- A store as it is: the two devices of each node and what the node knows; the ids of the open writes, the last of them first, and the last number
--- that was given; and the flows that run, each in its slot. What writes were asked for, and what flows have seen, no store need keep.
+-- A store as it is: the two devices of each node and what the node knows; the ids of the open writes, newest first, and the last number that was
+-- given; and the flows that run, each in its slot. A store need not keep what writes were asked for, or what flows have seen.
 pub record Store (D : Type 0) : Type 0 where
   pub devices : NodeName → D × D
   pub at : NodeName → NodeState
@@ -45,7 +45,7 @@ ShowsSlot None (Some v) = ⊥
 ShowsSlot (Some r) None = ⊥
 ShowsSlot (Some r) (Some v) = ShowsFlow r v
 
--- the nodes are shown so: of the open writes the ids alone
+-- the nodes are shown so: of the open writes only the ids
 pub record ShowsNodes {D : Type 0} (nodes : Nodes) (s : Store D) : Type 0 where
   pub at : (n : NodeName) → nodes.at n ≡ s.at n
   pub open_ids : map (λ (w : Entry). w.id) nodes.open_writes ≡ s.open_ids
@@ -65,8 +65,8 @@ module _ {D : Type 0} (state : D → State) (honest : D → Type 0) (store shard
         → (rs : List Record) × (found a b ≡ Some rs)
 
   -- devices of a store that is closed: whatever a stop leaves of them means a beginning of the log that holds what is kept; whatever it leaves of a
-  -- shard means the whole log, kept or not, so that none of it need be cut as long as the coordinator can't be read; and each id of the log, those
-  -- of writes that a stop may take from it among them, was given in an epoch that every stop leaves
+  -- shard means the whole log, kept or not, so that none of it need be cut as long as the coordinator can't be read; and each id of the log,
+  -- including those of writes that a stop may take from it, was given in an epoch that every stop leaves
   pub record RestsOver (devices : NodeName → D × D) (m : Machine) : Type 0 where
     pub sound : AreSound devices
     pub rests : Rests store shards m.log m.kept m.horizon (stops devices coordinator) (at_shards (stops devices))

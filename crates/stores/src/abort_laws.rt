@@ -4,12 +4,12 @@ ghost use Rattle.stores.specs.AbortLaws.{AbortsStand, InquiriesAbort, InquiriesF
 
 use laws::Leavings;
 
-/// A write that is aborted is open no longer, its flow has a verdict that is right, and the store stands.
+/// A write that is aborted is open no longer, its flow has a right verdict, and the store stands.
 pub fn aborts_leave_the_store_standing<W: Leavings>()
     ensures { (store shards : ℕ) → AbortsStand store shards W.left }
 {}
 
-/// An id that was given out, and that the coordinator finds neither decided nor open, has a verdict that is right.
+/// An id that was given out, and that the coordinator finds neither decided nor open, has a right verdict.
 pub fn ids_that_are_not_found_are_aborted<W: Leavings>()
     ensures { (store shards : ℕ) → InquiriesAbort store shards W.left }
 {}

@@ -9,15 +9,15 @@ pub fn check_replies_select<W: Leavings>()
     ensures { (store shards : ℕ) → CheckRepliesSelect store shards W.left }
 {}
 
-/// A check that finds its place holds what is right, and so does one that has walked one userset more: each is walked once, and all that a walked one
+/// A check that finds its place holds what is right, and so does one that has walked one more userset: each is walked once, and all that a walked one
 /// holds was walked or waits.
 pub fn checks_walk<W: Leavings>()
     ensures begin { (store shards : ℕ) → ChecksBegin store shards W.left }
     ensures go_on { (store shards : ℕ) → ChecksGoOn store shards W.left }
 {}
 
-/// A check that has found its user answers yes, which agrees; one that has nothing left to walk answers no, which agrees, also round rings; and one that
-/// has walked as many usersets as it may, and has one left, is `Full` with its cause.
+/// A check that has found its user answers yes, which agrees; one that has nothing left to walk answers no, which agrees, even around rings; and one
+/// that has walked as many usersets as it may, with one left, is `Full` with its cause.
 pub fn checks_agree<W: Leavings>()
     ensures yes { (store shards : ℕ) → ChecksSayYes store shards W.left }
     ensures no { (store shards : ℕ) → ChecksSayNo store shards W.left }

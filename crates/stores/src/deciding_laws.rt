@@ -4,12 +4,12 @@ ghost use Rattle.stores.specs.DecidingLaws.{DecidersStand, DecisionsStand, Votes
 
 use laws::Leavings;
 
-/// A decision that the coordinator stages leaves what the store stands for, with one write more, but for the flow that decides.
+/// A decision that the coordinator stages leaves what the store stands for, with one more write, except for the flow that decides.
 pub fn decisions_leave_the_store_standing<W: Leavings>()
     ensures { (store shards : ℕ) → DecisionsStand store shards W.left }
 {}
 
-/// A vote of each shard that takes part in an open write says that it is prepared whatever a stop leaves, and that its conditions hold.
+/// Votes of all participants of an open write say that it is prepared whatever a stop leaves, and that its conditions hold.
 pub fn votes_prepare<W: Leavings>()
     ensures { (store shards : ℕ) → VotesPrepare store shards W.left }
 {}

@@ -9,7 +9,7 @@ pub fn heads_are_right<W: Leavings>()
     ensures { (store shards : ℕ) → HeadsAreRight store shards W.left }
 {}
 
-/// Durable decisions behind a place are a right batch.
+/// Durable decisions after a place are a right batch.
 pub fn batches_are_right<W: Leavings>()
     ensures { (store shards : ℕ) → BatchesAreRight store shards W.left }
 {}
@@ -24,7 +24,7 @@ pub fn shards_settle<W: Leavings>()
     ensures { (store shards : ℕ) → ShardsSettle store shards W.left }
 {}
 
-/// What each shard has settled it has learned, whatever a stop leaves, so that the horizon may be raised to it.
+/// What each shard has settled it has learned, whatever a stop leaves, so the horizon may be raised to it.
 pub fn settled_is_learned<W: Leavings>()
     ensures { (store shards : ℕ) → SettledIsLearned store shards W.left }
 {}

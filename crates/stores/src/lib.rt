@@ -1,8 +1,8 @@
-//! What a store stands for: the moments of a store and what its flows hold, what they answer and why they are refused, and what one record, reply or flow more does to it; words and laws.
+//! What a store stands for: the moments of a store and what its flows hold, what they answer and why they are refused, and what one more record, reply or flow does to it; words and laws.
 //!
 //! Keeps: nothing at run time; each law is the contract of a function with an empty body.
-//! Never: says a word of turns and runs, which are of `turns` above.
-//! Callers rely on: with one record more at a node, one flush, or one flow that begins, goes on or ends, the store goes on to stand for its machine.
+//! Never: says a word of turns and runs, which are in `turns` above.
+//! Callers rely on: with one more record at a node, one flush, or one flow that begins, goes on or ends, the store still stands for its machine.
 //!
 //! Start at `specs/Stands.antt`, what a store stands for, and `specs/Held.antt`, what is right in a flow's hands.
 #![tactic(auto)]

@@ -4,27 +4,27 @@ ghost use Rattle.stores.specs.PrepareLaws.{BrokenShardsHaveCause, BusyShardsHave
 
 use laws::Leavings;
 
-/// Where a shard finds nothing against its part, the part's conditions are met after the whole log.
+/// If a shard finds nothing against its part, the part's conditions are met after the whole log.
 pub fn prepared_conditions_are_met<W: Leavings>()
     ensures { (store shards : ℕ) → PreparedConditionsAreMet store shards W.left }
 {}
 
-/// Where it finds its part's tuples taken, a write in doubt there that is not the flow's own names one of them.
+/// If it finds its part's tuples taken, a write in doubt there, other than the flow's own, names one of them.
 pub fn busy_shards_have_cause<W: Leavings>()
     ensures { (store shards : ℕ) → BusyShardsHaveCause store shards W.left }
 {}
 
-/// Where it finds a condition broken, that condition is not met after the whole log.
+/// If it finds a condition broken, that condition is not met after the whole log.
 pub fn broken_shards_have_cause<W: Leavings>()
     ensures { (store shards : ℕ) → BrokenShardsHaveCause store shards W.left }
 {}
 
-/// Where a condition names a place below the shard's horizon, it names one below that of the whole store.
+/// If a condition names a place below the shard's horizon, it names one below that of the whole store.
 pub fn collected_shards_have_cause<W: Leavings>()
     ensures { (store shards : ℕ) → CollectedShardsHaveCause store shards W.left }
 {}
 
-/// Where its batch has no room for the prepare, that is the record for which there was no room.
+/// If its batch has no room for the prepare, that is the record for which there was no room.
 pub fn full_shards_have_cause<W: Leavings>()
     ensures { (store shards : ℕ) → FullShardsHaveCause store shards W.left }
 {}

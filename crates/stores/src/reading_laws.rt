@@ -9,7 +9,7 @@ pub fn shard_rows_show_snapshots()
     ensures { ShardRowsShowSnapshots }
 {}
 
-/// Where all tuples of a tupleset have one shard, what that shard selects is what the tupleset selects.
+/// If all tuples of a tupleset have one shard, what that shard selects is what the tupleset selects.
 pub fn one_shard_is_enough()
     ensures { OneShardIsEnough }
 {}

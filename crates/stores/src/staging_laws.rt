@@ -1,4 +1,4 @@
-// Laws of a shard that stages one record more, each the clause of a function with an empty body.
+// Laws of a shard that stages one more record, each the clause of a function with an empty body.
 ghost use Rattle.std.specs.Prelude.{ℕ};
 ghost use Rattle.stores.specs.StagingLaws.{CollectsStand, DropsStand, LearnsStand, PreparesStand};
 

@@ -21,7 +21,7 @@ pub enum Asked {
 }
 
 impl Asked {
-    /// What the words ask for: `two-callers`, `two-writers`, or `threads` with the seconds of a run and its seed. None where they are other words.
+    /// What the words ask for: `two-callers`, `two-writers`, or `threads` with the seconds of a run and its seed. None if they are other words.
     pub fn read(words: &[&str]) -> Option<Asked> {
         match *words {
             ["two-callers"] => Some(Asked::TwoCallers),
@@ -33,7 +33,7 @@ impl Asked {
 }
 
 impl Asked {
-    /// The seed by which disks fail, where they do.
+    /// The seed by which disks fail, if they do.
     pub(crate) fn failing(self) -> Option<u64> {
         match self {
             Asked::Stress(stress) => Some(stress.seed),

@@ -9,7 +9,7 @@ use sides::Room;
 use std::sync::Wait;
 
 impl<B: Room> Worker<B> {
-    /// Makes its next call. Where what it would ask for is refused before it is asked, there is none this time.
+    /// Makes its next call. If what it would ask for is refused before it is asked, there is none this time.
     pub(crate) fn ask<D: Device, G: Gate, R: Wait>(
         &mut self,
         rt: &R,
@@ -54,7 +54,7 @@ impl<B: Room> Worker<B> {
         course: &Course,
     ) {
         let freshness = draw_freshness(&mut self.random, self.known);
-        // What can't be asked for is asked for no more.
+        // What can't be asked for is not asked for again.
         let _ = if self.random.happens(50) {
             let text = CHECKED[self.random.below(10) as usize];
             self.check(rt, store, course, freshness, text)

@@ -1,4 +1,4 @@
-// The calls of one that asks a store, and the line of each.
+// The calls of one worker, and the line of each.
 ghost use Rattle.std.specs.Prelude.{◌≤◌};
 ghost use Rattle.tuples.specs.Limits.{max_watched};
 
@@ -51,7 +51,7 @@ pub(crate) fn sets(alloc: Global, text: &str) -> Result<Vec<Tupleset>, Refusal> 
 }
 
 impl<B: Room> Worker<B> {
-    // It was refused, and the word behind that is what it asked for.
+    // It was refused, and the word after that is what it asked for.
     fn push_refused(&mut self, refusal: Refusal, word: &[u8]) {
         self.is_refused = true;
         self.page.push(b" refused");
@@ -169,7 +169,7 @@ impl<B: Room> Worker<B> {
         self.page.push(b"\n");
     }
 
-    /// Watches these namespaces, so many places on from where it has watched to.
+    /// Watches these namespaces, this many places on from where it has watched to.
     pub(crate) fn watch<D: Device, G: Gate, R: Wait>(
         &mut self,
         rt: &R,
@@ -218,7 +218,7 @@ impl<B: Room> Worker<B> {
         self.page.push(b"\n");
     }
 
-    /// Opens the node again. Whether it is up.
+    /// Opens the node again. Returns whether it is up.
     pub(crate) fn restart<D: Device, G: Gate, R: Wait>(
         &mut self,
         rt: &R,
@@ -249,7 +249,7 @@ impl<B: Room> Worker<B> {
     }
 }
 
-// The refusal of its opening, where that was refused. A node that is not there is up.
+// The refusal of its opening, if that was refused. A node that is not there is up.
 fn restart_node<D: Device, B: Room, G: Gate, R: Wait>(
     rt: &R,
     alloc: Global,

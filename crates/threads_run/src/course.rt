@@ -12,7 +12,7 @@ pub(crate) struct Course {
 }
 
 impl Course {
-    /// A run of so many milliseconds that begins now.
+    /// A run of this many milliseconds that begins now.
     pub(crate) fn begin(rt: &impl Clock, milliseconds: u64) -> io::Result<Course> {
         let start = Instant::now(rt)?;
         Ok(Course {
@@ -22,12 +22,12 @@ impl Course {
         })
     }
 
-    /// The next tick, which no other call is given.
+    /// The next tick, which no other call gets.
     pub(crate) fn tick(&self) -> u64 {
         self.ticks.fetch_add(1, Ordering::SeqCst)
     }
 
-    /// How many milliseconds of the run are left. None where the clock can't be read.
+    /// How many milliseconds of the run are left. None if the clock can't be read.
     fn left(&self, rt: &impl Clock) -> u64 {
         match self.start.elapsed(rt) {
             Ok(elapsed) => self.milliseconds.saturating_sub(milliseconds_of(elapsed)),
@@ -43,7 +43,7 @@ impl Course {
         self.milliseconds
     }
 
-    /// Sleeps until so many milliseconds of the run are over, where they are not.
+    /// Sleeps until this many milliseconds of the run are over, if they are not.
     pub(crate) fn sleep_until(&self, rt: &impl Clock, milliseconds: u64) {
         let left = self.left(rt);
         let then = self.milliseconds.saturating_sub(milliseconds);

@@ -8,7 +8,7 @@ use device::{Device, SimDisk, Tear};
 use std::alloc::{AllocError, Global};
 use tuples::Shards;
 
-// Each disk has a row of numbers of its own, beside those of the threads.
+// Each disk has a sequence of numbers of its own, beside those of the threads.
 const FIRST_ROW: u64 = 1_000;
 
 // At which call a disk fails, from 1, and what is found then.
@@ -18,7 +18,7 @@ struct Failure {
     tear: Tear,
 }
 
-// When the disk of this number fails, by the seed; never where there is none.
+// When the disk of this number fails, by the seed; never if there is none.
 fn failure_of(seed: Option<u64>, disk: u64) -> Option<Failure> {
     let seed = seed?;
     let mut random = Random::of(seed, FIRST_ROW.saturating_add(disk));
@@ -31,7 +31,7 @@ fn failure_of(seed: Option<u64>, disk: u64) -> Option<Failure> {
     Some(Failure { call, tear })
 }
 
-// A disk that nobody has written, set to fail where that is said.
+// A disk that nobody has written to, set to fail if that is said.
 fn new_disk(alloc: Global, failure: Option<Failure>) -> Result<SimDisk, AllocError>
     ensures { IfOk result (λ disk. IsNew state_of (λ d. Unit {0}) disk) }
 {
@@ -42,7 +42,7 @@ fn new_disk(alloc: Global, failure: Option<Failure>) -> Result<SimDisk, AllocErr
     Ok(disk)
 }
 
-/// Two disks for each node of a store of so many shards, each set to fail once where there is a seed.
+/// Two disks for each node of a store of this many shards, each set to fail once if there is a seed.
 pub(crate) fn new_disks(
     alloc: Global,
     shards: Shards,

@@ -19,7 +19,7 @@ fn shared(random: &mut Random) -> &'static str {
     SHARED[random.below(20) as usize]
 }
 
-/// Behind the others.
+/// After the others.
 pub(crate) fn add_touch(
     alloc: Global,
     changes: &mut Vec<Change>,
@@ -31,7 +31,7 @@ pub(crate) fn add_touch(
     Ok(())
 }
 
-/// Behind the others.
+/// After the others.
 pub(crate) fn add_delete(
     alloc: Global,
     changes: &mut Vec<Change>,

@@ -1,4 +1,4 @@
-// The last part of a run: the whole list, and some answers behind it.
+// The last part of a run: the whole list, and some answers after it.
 use crate::course::Course;
 use crate::plan::{CHECKED, NAMESPACES, SETS};
 use crate::worker::Worker;
@@ -11,7 +11,7 @@ use tuples::{Freshness, Refusal};
 // How many places one watch lists.
 const AT_ONCE: u64 = 256;
 
-// How often the last part is begun anew, where a disk fails only then. Each disk fails once, and there are ten.
+// How often the last part begins again, if a disk fails only then. Each disk fails once, and there are ten.
 const TRIES: u64 = 12;
 
 impl<B: Room> Worker<B> {
@@ -60,7 +60,7 @@ impl<B: Room> Worker<B> {
         self.answer_all(rt, store, course)
     }
 
-    /// Opens all nodes again, and then lists all and asks some. Whether all was told.
+    /// Opens all nodes again, and then lists all and asks some. Returns whether all was told.
     pub(crate) fn end<D: Device, G: Gate, R: Wait>(
         &mut self,
         rt: &R,

@@ -29,7 +29,7 @@ impl Findings {
         self.page.push(b"\n");
     }
 
-    /// Prints all lines. The status: 0 where all is so.
+    /// Prints all lines. Returns the status: 0 if all is so.
     pub(crate) fn print<R: Print>(&self, rt: &R) -> u8 {
         let printed = io::writer(rt).write_all(self.page.bytes());
         if printed.is_err() || self.is_wrong || self.page.is_torn() {

@@ -2,8 +2,8 @@
 //! runs it.
 //!
 //! Keeps: each line of a run is what one call was told, between two ticks of the one counter that all threads share.
-//! Never: judges what was told, raises a horizon, or keeps a store behind its run.
-//! Callers rely on: status 0 where the whole run is printed, and where a play went as it has to; 1 where it was not.
+//! Never: judges what was told, raises a horizon, or keeps a store after its run.
+//! Callers rely on: status 0 if the whole run is printed, and if a play went as it has to; 1 if it was not.
 //!
 //! Start at `stress.rt`, the threads of a run; `worker.rt` has what one of them asks, and `two_callers.rt` and `two_writers.rt` the plays.
 #![tactic(auto)]

@@ -4,10 +4,10 @@ use names::{CallName, NodeName};
 use std::sync::atomic::{AtomicBool, AtomicU64, Ordering};
 use std::thread;
 
-// How often one yields for the others at most.
+// At most how often one yields for the others.
 const TURNS: u64 = 1_000_000;
 
-/// Where so many writers meet, each behind the beginning of its write and before its part at a shard is staged. None meet where it is for none.
+/// Where this many writers meet, each after the beginning of its write and before its part at a shard is staged. None meet if it is for none.
 #[derive(Drop)]
 pub(crate) struct Meeting {
     guests: u64,
@@ -24,7 +24,7 @@ impl Meeting {
         }
     }
 
-    // Comes, and stays until all have come, or for so many turns.
+    // Comes, and stays until all have come, or for this many turns.
     fn attend(&self) {
         self.come.fetch_add(1, Ordering::SeqCst);
         for _ in 0..TURNS {

@@ -23,10 +23,10 @@ const STORE: u64 = 1;
 /// How many shards it has.
 const SHARDS: u8 = 4;
 
-/// The status where a run was cut off, or a play did not go as it has to.
+/// The status if a run was cut off, or a play did not go as it has to.
 pub(crate) const FAILED: u8 = 1;
 
-/// Opens a store, and runs what was asked for. The status.
+/// Opens a store, and runs what was asked for. Returns the status.
 pub fn run<R: Runtime + Threads + Wait + Sync>(rt: &R, alloc: Global, asked: Asked) -> u8 {
     match Parts::new(alloc) {
         Ok((parker, parts)) => run_over_parts(rt, alloc, parker, parts, asked),

@@ -1,9 +1,9 @@
-// Bytes that are written one behind the other.
+// Bytes that are written one after another.
 use itoa::Buffer;
 use std::alloc::Global;
 use tuples::Tuple;
 
-/// Bytes that are written one behind the other. Where memory is refused some are missing, and it says so.
+/// Bytes that are written one after another. If memory is refused some are missing, and it says so.
 #[derive(Drop)]
 pub(crate) struct Page {
     bytes: Vec<u8>,
@@ -27,7 +27,7 @@ impl Page {
         self.is_torn
     }
 
-    /// It begins anew.
+    /// It begins again.
     pub(crate) fn clear(&mut self) {
         self.bytes.clear();
         self.is_torn = false;
@@ -45,7 +45,7 @@ impl Page {
         self.push(buffer.format(number).as_bytes());
     }
 
-    /// The number, and a space behind it.
+    /// The number, and a space after it.
     pub(crate) fn push_column(&mut self, number: u64) {
         self.push_number(number);
         self.push(b" ");

@@ -10,7 +10,7 @@ pub(crate) enum Kind {
     Watcher,
     /// Opens nodes again.
     Trouble,
-    /// The last part, behind all threads.
+    /// The last part, after all threads.
     End,
 }
 
@@ -37,13 +37,13 @@ impl Kind {
         }
     }
 
-    /// How many calls it makes in a run of so many seconds.
+    /// How many calls it makes in a run of this many seconds.
     pub(crate) fn calls_in(self, seconds: u64) -> u64 {
         let (a_second, most) = self.limits();
         a_second.saturating_mul(seconds).min(most)
     }
 
-    /// How many calls it makes one behind the other before it rests.
+    /// How many calls it makes one after another before it rests.
     pub(crate) fn burst(self) -> u64
         ensures { 1 ≤ result }
     {

@@ -1,14 +1,14 @@
 // Numbers that a seed chooses.
 ghost use Rattle.std.specs.Prelude.{◌<◌};
 
-/// A row of numbers that looks like chance, and is the same for the same seed (splitmix64).
+/// A sequence of numbers that looks random, and is the same for the same seed (splitmix64).
 #[derive(Clone, Copy)]
 pub(crate) struct Random {
     state: u64,
 }
 
 impl Random {
-    /// Another row for each number of a thread.
+    /// Another sequence for each number of a thread.
     pub(crate) fn of(seed: u64, number: u64) -> Random {
         let mut random = Random {
             state: seed.wrapping_mul(0x2545_f491_4f6c_dd1d) ^ number,
@@ -32,7 +32,7 @@ impl Random {
         self.next() % most
     }
 
-    /// Whether it happens, so many times of a hundred.
+    /// Whether it happens, this many times in a hundred.
     pub(crate) fn happens(&mut self, percent: u64) -> bool {
         self.below(100) < percent
     }

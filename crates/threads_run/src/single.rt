@@ -90,6 +90,6 @@ pub(crate) fn watch<D: Device, B: Room, G: Gate, R: Wait>(
 
 /// The text of a refusal on standard error.
 pub(crate) fn tell_refusal(rt: &impl Eprint, refusal: Refusal) {
-    // A text that can't be printed changes nothing of the status.
+    // A text that can't be printed does not change the status.
     let _ = eprintln!(rt; "harness: refused {refusal}");
 }

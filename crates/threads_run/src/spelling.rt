@@ -34,7 +34,7 @@ fn push_condition(page: &mut Page, condition: &Condition) {
     }
 }
 
-/// Its changes, and its conditions where there are any: ` +doc:a#viewer@u1 if ?doc:b#viewer@u1`.
+/// Its changes, and its conditions if there are any: ` +doc:a#viewer@u1 if ?doc:b#viewer@u1`.
 pub(crate) fn push_write(page: &mut Page, write: &Write) {
     for change in write.changes() {
         page.push(b" ");

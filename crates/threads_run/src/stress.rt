@@ -7,7 +7,7 @@ use crate::random::Random;
 use crate::worker::Worker;
 use crossbeam_utils::sync::Parker;
 use device::Device;
-use locked::{Gate, Store, Unnoticed};
+use locked::{Gate, Store, Unnoticed, Window};
 use sides::Room;
 use std::alloc::{AllocError, Global};
 use std::io::{self, Write};
@@ -30,7 +30,7 @@ fn new_worker<D: Device, B: Room, G: Gate, R: Wait>(
     Worker::new(alloc, kind, number, caller, Random::of(seed, number))
 }
 
-// Those of all kinds, but for the last part.
+// Those of all kinds, except for the last part.
 fn new_workers<D: Device, B: Room, G: Gate, R: Wait>(
     rt: &R,
     alloc: Global,
@@ -68,6 +68,12 @@ fn work_all<
     );
 }
 
+// Nothing is collected.
+const EVERYTHING: Window = Window {
+    places: u64::MAX,
+    bytes: u64::MAX,
+};
+
 // They work while another thread tends the store.
 fn work_and_keep<
     D: Device + Send + Sync,
@@ -86,7 +92,7 @@ fn work_and_keep<
     let mut keeper = store.session(rt);
     thread::join(
         rt,
-        move || store.keep(rt, alloc, &mut keeper, u64::MAX, &parker, &mut Unnoticed),
+        move || store.keep(rt, alloc, &mut keeper, EVERYTHING, &parker, &mut Unnoticed),
         || {
             work_all(rt, store, course, workers, seconds);
             store.close();
@@ -100,7 +106,7 @@ fn print_worker<B: Room, R: Print>(rt: &R, worker: &Worker<B>) -> io::Result<()>
     io::writer(rt).write_all(worker.page.bytes())
 }
 
-// The whole run, the last part last. Whether none of it is missing.
+// Prints the whole run, the last part last. Returns whether none of it is missing.
 fn print_all<B: Room, R: Print>(
     rt: &R,
     workers: &[Worker<B>],
@@ -150,7 +156,7 @@ fn run_workers<
     }
 }
 
-/// Runs threads of all kinds over the store, and prints what each was told. The status.
+/// Runs threads of all kinds over the store, and prints what each was told. Returns the status.
 pub(crate) fn run<
     D: Device + Send + Sync,
     B: Room + Send + Sync,

@@ -9,10 +9,10 @@ use std::sync::Wait;
 use std::thread;
 use tuples::Shards;
 
-// How often a node is opened again at the end, where it does not come up.
+// How often a node is opened again at the end, if it does not come up.
 const TRIES: u64 = 10;
 
-// How often the trouble yields to others at most, before it opens a node again.
+// At most how often the trouble yields to others before it opens a node again.
 const MOST_TURNS: u64 = 4_000;
 
 impl<B: Room> Worker<B> {

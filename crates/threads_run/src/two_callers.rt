@@ -101,7 +101,7 @@ fn has_touch_at(events: &[Version], place: u64) -> bool {
     false
 }
 
-// What B sees of the write at the place, where another one at `gone` deleted the tuple.
+// What B sees of the write at the place, if another one at `gone` deleted the tuple.
 fn b_sees_behind<D: Device, B: Room, G: Gate, R: Wait>(
     rt: &R,
     alloc: Global,
@@ -190,7 +190,7 @@ fn play<D: Device + Send + Sync, B: Room + Send + Sync, G: Gate + Sync, R: Threa
     b_sees_behind(rt, alloc, store, b, place, gone)
 }
 
-/// Plays it, and prints what was found. The status.
+/// Plays it, and prints what was found. Returns the status.
 pub(crate) fn run<
     D: Device + Send + Sync,
     B: Room + Send + Sync,

@@ -13,7 +13,7 @@ use std::sync::Wait;
 use std::thread::{self, Threads};
 use tuples::{Refusal, Shards, Tuple, shard_of};
 
-// One of these objects has each shard of a store of four.
+// Each shard of a store of four has one of these objects.
 const TEXTS: [&str; 4] = [
     "doc:a#viewer@u1",
     "doc:b#viewer@u1",
@@ -66,7 +66,7 @@ fn write_both<
     Ok(())
 }
 
-/// Plays it, and prints whether both were inside at once. The status.
+/// Plays it, and prints whether both were inside at once. Returns the status.
 pub(crate) fn run<
     D: Device + Send + Sync,
     B: Room + Send + Sync,

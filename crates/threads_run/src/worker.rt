@@ -1,4 +1,4 @@
-// One that asks a store, from a thread of its own.
+// A worker that asks a store, from a thread of its own.
 use crate::course::Course;
 use crate::page::Page;
 use crate::plan::Kind;
@@ -11,7 +11,7 @@ use std::sync::Wait;
 use std::thread;
 use std::time::Clock;
 
-/// One that asks a store, and a line for each call that it made.
+/// A worker, and a line for each call that it made.
 #[derive(Drop)]
 pub(crate) struct Worker<B: Room> {
     pub(crate) alloc: Global,
@@ -55,7 +55,7 @@ impl<B: Room> Worker<B> {
         }
     }
 
-    /// Makes so many calls, spread over the course of the run, or those that it has time for; one at least.
+    /// Makes this many calls, spread over the course of the run, or those that it has time for; at least one.
     pub(crate) fn work<D: Device, G: Gate, R: Wait + Clock>(
         &mut self,
         rt: &R,
@@ -89,7 +89,7 @@ impl<B: Room> Worker<B> {
     }
 }
 
-// So many parts of a whole that has some.
+// This many parts of a whole that has some.
 fn part_of(whole: u64, part: u64, parts: u64) -> u64 {
     whole.saturating_mul(part) / parts.max(1)
 }

@@ -17,7 +17,7 @@ decided-append (Epoch epoch store shards node ∷ rs) more = decided-append rs m
 decided-append (Decision place w ∷ rs) more = ap (λ (l : List Entry). w ∷ l) (decided-append rs more)
 decided-append (Horizon place ∷ rs) more = decided-append rs more
 
--- the base is the same behind the first of what is staged
+-- the base is the same after the beginning of what is staged
 pub base_behind : (low high : ℕ) (s : CoordinatorState) (rs more : List Record) → AreStaged low high (rs ++ more) → (coordinator_from s rs).base ≡ s.base
 unfolding coordinator_step
 base_behind low high s [] more staged = refl
@@ -29,7 +29,7 @@ base_behind low high s (Decision place w ∷ rs) more staged = base_behind low h
 base_behind low high s (Horizon place ∷ rs) more staged = base_behind place high (record s { horizon = place }) rs more staged.1
 base_behind low high s (Checkpoint mark ∷ rs) more staged = absurd staged
 
--- and behind all of it
+-- and after all of it
 pub base_staged : (low high : ℕ) (s : CoordinatorState) (rs : List Record) → AreStaged low high rs → (coordinator_from s rs).base ≡ s.base
 base_staged low high s rs staged = base_behind low high s rs [] (subst (AreStaged low high) (sym (append-nil rs)) staged)
 
@@ -66,7 +66,7 @@ staged_higher low high higher (Epoch epoch store shards node ∷ rs) le staged =
 staged_higher low high higher (Decision place w ∷ rs) le staged = staged_higher low high higher rs le staged
 staged_higher low high higher (Horizon place ∷ rs) le staged = (staged.0, staged_higher place high higher rs le staged.1)
 
--- one decision more
+-- one more decision
 pub staged_decision : (low high place : ℕ) (w : Entry) (rs : List Record) → AreStaged low high rs → AreStaged low high (rs ++ Decision place w ∷ [])
 staged_decision low high place w [] staged = staged
 staged_decision low high place w (Prepare v ∷ rs) staged = absurd staged
@@ -80,7 +80,7 @@ staged_decision low high place w (Horizon p ∷ rs) staged = (staged.0, staged_d
 first_too : (place : ℕ) (r : Record) (rs : List Record) → ((x : ℕ) → Contains (r ∷ rs) (Horizon x) → x < place) → (x : ℕ) → Contains rs (Horizon x) → x < place
 first_too place r rs below x there = below x (Contains-append_right (r ∷ []) rs (Horizon x) there)
 
--- one horizon more, that is above each of them
+-- one more horizon, above each of them
 pub staged_horizon : (low high place : ℕ) (rs : List Record) → low ≤ place → place ≤ high → ((x : ℕ) → Contains rs (Horizon x) → x < place) → AreStaged low high rs → AreStaged low high (rs ++ Horizon place ∷ [])
 staged_horizon low high place [] le within below staged = (le, within)
 staged_horizon low high place (Prepare v ∷ rs) le within below staged = absurd staged

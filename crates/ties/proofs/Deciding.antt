@@ -20,7 +20,7 @@ get_back (z ∷ xs) ys x (suc j) is lt = get_back xs ys x j is (omega (arith, lt
 
 -- Given what a device holds and whether it is honest, and a coordinator that is tied
 module _ {D : Type 0} (state : D → State) (honest : D → Type 0) (old : CoordinatorView D) (seen : List Entry) (low : ℕ) (tried : List Attempt) (tied : IsTiedUp state honest old seen low tried) where
-  -- it stays so where what lies in memory alone is changed
+  -- it stays so if what lies in memory alone is changed
   in_memory : (ids : List WriteId) (n : ℕ) → AreOutside (record old { open_ids = ids; given = n }) (seen ++ tied.more) → IsTiedUp state honest (record old { open_ids = ids; given = n }) seen low tried
   in_memory ids n outside = record {
     running = record { honest_a = tied.running.honest_a; honest_b = tied.running.honest_b; up = tied.running.up; rest = tied.running.rest };
@@ -59,7 +59,7 @@ module _ {D : Type 0} (state : D → State) (honest : D → Type 0) (old : Coord
   aborted id = in_memory (without_id id old.open_ids) old.given
       (still_outside old (record old { open_ids = without_id id old.open_ids }) (seen ++ tied.more) refl refl (kept_open id old.open_ids) tied.outside)
 
-  -- Given that the horizon is raised to a kept place by one record more
+  -- Given that the horizon is raised to a kept place by one more record
   module _ (place : ℕ) (none : IsRising old place → ⊥) (above : (kept_of old).horizon ≤ place) (within : place ≤ end_of (kept_of old)) where
     abbrev raised : CoordinatorView D
     raised = record old { staged = old.staged ++ Horizon place ∷ [] }

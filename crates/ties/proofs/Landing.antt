@@ -56,7 +56,7 @@ module _ {D E : Type 0} (state : D → State) (honest : D → Type 0) (state_of 
   low_base : base ≤ length seen
   low_base = let b = tied.kept.base in let w = tied.kept.within in omega (arith, b, w)
 
-  -- what is staged is what the list has behind what is kept
+  -- what is staged is what the list has after what is kept
   more_is : tied.more ≡ decided old.staged
   more_is = append_cancel_left (drop base seen) tied.more (decided old.staged)
       (sym (drop-append-le base seen tied.more low_base)

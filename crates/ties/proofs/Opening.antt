@@ -12,7 +12,7 @@ use Rattle.ties.specs.JoiningLaws.{FailedFlushesStayTied, OpeningsStayTied, Refu
 use Rattle.ties.proofs.Decided.{staged_whole}
 use Rattle.tuples.proofs.Lists.{slice_get_longer}
 
--- of writes that are listed, the first are
+-- the first of listed writes are listed
 listed_front : (epoch : ℕ) (seen more : List Entry) → AreListed epoch (seen ++ more) → AreListed epoch seen
 listed_front epoch seen more listed = record {
   whole = λ j w is. listed.whole j w (slice_get_longer seen more j w is);
@@ -63,7 +63,7 @@ module _ {D : Type 0} (state : D → State) (honest : D → Type 0) (v : Coordin
 pub tied_up_is_tied : {D : Type 0} (state : D → State) (honest : D → Type 0) → TiedUpIsTied state honest
 tied_up_is_tied state honest store shards v seen low tried tied me = record { up = λ up. tied; anywhere = anywhere state honest v seen low tried tied; me = me }
 
--- an opening more changes nothing but the epoch
+-- one more opening changes only the epoch
 reopened : (me : Identity) (seen : List Entry) (low : ℕ) (tried : List Attempt) (rs : List Record) → IsLonger seen low tried (coordinator_state rs) → IsLonger seen low tried (coordinator_state (rs ++ coordinator_opening me rs ∷ []))
 unfolding coordinator_step
 reopened me seen low tried rs longer = subst (IsLonger seen low tried) (sym (coordinator_push rs (coordinator_opening me rs))) (record {

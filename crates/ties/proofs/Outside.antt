@@ -17,11 +17,11 @@ kept_open id (y ∷ ids) x there = ⊎_elim
     (first_or_later y x (without_id id ids) (subst (λ (b : Bool). Contains (if b then without_id id ids else y ∷ without_id id ids) x) stays there)))
     (cases_Bool (same_id y id))
 
--- an id that was given is so in the same epoch, where no number was taken back
+-- an id that was given is so in the same epoch, if no number was taken back
 pub still_given : {D E : Type 0} (old : CoordinatorView E) (new : CoordinatorView D) (id : WriteId) → (memory_of new).epoch ≡ (memory_of old).epoch → old.given ≤ new.given → IsGivenAt old id → IsGivenAt new id
 still_given old new id epoch given is = ⊎_elim (λ lt. inl (omega (arith, lt, epoch))) (λ eq. inr (eq.0 ∙ sym epoch, omega (arith, eq.1, given))) is
 
--- the same is known where fewer ids are open, or as many
+-- the same is known if fewer ids are open, or as many
 pub still_outside : {D E : Type 0} (old : CoordinatorView E) (new : CoordinatorView D) (log : List Entry) → (memory_of new).epoch ≡ (memory_of old).epoch → new.given ≡ old.given
     → ((id : WriteId) → Contains new.open_ids id → Contains old.open_ids id) → AreOutside old log → AreOutside new log
 still_outside old new log epoch given fewer out = record {

@@ -12,7 +12,7 @@ use Rattle.ties.specs.JoiningLaws.{CheckpointsStayTied, ChecksPoint, FailedCheck
 use Rattle.ties.proofs.Opening.{durable_longer, memory_longer}
 use Rattle.ties.proofs.Outside.{still_outside}
 
--- the decisions above the horizon are those of the list behind it
+-- the decisions above the horizon are those of the list after it
 of_above : (log : List Entry) (s : CoordinatorState) → AreOf log s → AreOf log (above_horizon s)
 of_above log s are = record {
   decisions = ap (drop (s.horizon - s.base)) are.decisions ∙ drop-drop (s.horizon - s.base) s.base log ∙ ap (λ (n : ℕ). drop n log) (let b = are.base in omega (arith, b));

@@ -20,7 +20,7 @@ use Rattle.journal.proofs.Staged.{room_or_none}
 
 -- Given a shard that is up and tied
 module _ {D : Type 0} (state : D → State) (honest : D → Type 0) (store shards s : ℕ) (old new : ShardView D) (seen : List Entry) (low : ℕ) (tied : IsShardTiedUp state honest store shards s old seen low) where
-  -- one record more is staged, which leaves rows of the list
+  -- one more record is staged, which leaves rows of the list
   staged_one : (r : Record) → Stages old r new → IsUp state honest new → AreRowsOf shards s seen low (shard_step (memory old) r) → IsShardTiedUp state honest store shards s new seen low
   staged_one r stages up rows = record {
     up = up;

@@ -90,7 +90,7 @@ module _ {D : Type 0} (state : D → State) (honest : D → Type 0) (store shard
     subst (λ (there : Tuple → Bool). IsCheckSelection there x u rows) (shows v place seen low tied reads.above reads.learned) reads.rows_are,
   )
 
--- an opening more changes no row
+-- one more opening changes no row
 reopened : (me : Identity) (shards s : ℕ) (seen : List Entry) (low : ℕ) (rs : List Record) → AreRowsOf shards s seen low (shard_state rs) → AreRowsOf shards s seen low (shard_state (rs ++ opening me rs ∷ []))
 unfolding shard_step
 reopened me shards s seen low rs rows = subst (AreRowsOf shards s seen low) (sym (shard_push rs (opening me rs)))

@@ -92,7 +92,7 @@ three_listed = record {
   given = λ j w is. let n = numbered_so j w is in omega (arith, n.0);
 }
 
--- Two decisions are kept. A third is staged, behind a horizon that is to be raised to the first, and a fourth write is open.
+-- Two decisions are kept. A third is staged, after a horizon that is to be raised to the first, and a fourth write is open.
 abbrev two_kept : {D : Type 0} → D → D → CoordinatorView D
 two_kept a b = record {
   a = a;

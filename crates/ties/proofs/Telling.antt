@@ -18,7 +18,7 @@ taken_whole zero xs = refl
 taken_whole (suc n) [] = refl
 taken_whole (suc n) (x ∷ xs) = ap (λ (l : List Entry). x ∷ l) (taken_whole n xs)
 
--- of whole writes, those that are taken behind a place are whole
+-- whole writes that are taken after a place are whole
 whole_part : (seen : List Entry) (from n : ℕ) → AreWhole seen → AreWhole (take n (drop from seen))
 whole_part seen from n whole j w is = whole (from + j) w (sym (slice_get_drop from seen j) ∙ slice_get_taken n (drop from seen) j w is)
 

@@ -1,4 +1,4 @@
--- Devices that nobody has written yet are tied to the empty list.
+-- Devices that nobody has written to are tied to the empty list.
 use Rattle.std.proofs.Common.{◌≡◌, ℕ, List, [], Some, refl, sym, ◌∙◌, ap, subst, arith}
 use Rattle.std.proofs.lemmas.Option.{same_Some}
 use Rattle.ties.proofs.Words.{AreAlike, AreRowsOf, IsLonger, of_shard, Record, State}

@@ -40,7 +40,7 @@ module _ {D : Type 0} (state : D → State) (honest : D → Type 0) where
       → IsTiedUp state honest old seen low tried → RaisesAt old place new → place ≤ end_of (kept_of old)
       → IsTiedUp state honest new seen low tried
 
-  -- A decision of an open write: the node stays tied, and the attempt stands behind the others. Its place is above all that was seen.
+  -- A decision of an open write: the node stays tied, and the attempt stands after the others. Its place is above all that was seen.
   abbrev pub DecisionsStayTied : Type 0
   DecisionsStayTied = (old new : CoordinatorView D) (w : Entry) (d : DecidedValue) (seen : List Entry) (low : ℕ) (tried : List Attempt)
       → IsTiedUp state honest old seen low tried → DecidesAt old w d new

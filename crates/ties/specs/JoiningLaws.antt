@@ -1,4 +1,4 @@
--- Laws of the flush, the checkpoint and the opening of a coordinator: what joins the list, and what is known where a device failed.
+-- Laws of the flush, the checkpoint and the opening of a coordinator: what joins the list, and what is known if a device failed.
 use Rattle.std.specs.Prelude.{◌≡◌, ◌≤◌, true, ℕ, List, [], ◌++◌, take, drop}
 use Rattle.refusal.specs.declared.refusal.Refusal.{Refusal}
 use Rattle.tuples.specs.declared.entry.Entry.{Entry}
@@ -10,7 +10,7 @@ use Rattle.calls.specs.Opening.{CoordinatorComesUp, CoordinatorStaysOut}
 use Rattle.laws.specs.Worlds.{coordinator_node}
 use Rattle.ties.specs.Ties.{Anywhere, Attempt, IsOpenedTied, IsTiedUp, behind}
 
--- the first of what was staged is durable, and nothing else is changed but the devices
+-- the beginning of what was staged is durable, and nothing else is changed but the devices
 pub record LandsFirst {D E : Type 0} (count : ℕ) (old : CoordinatorView E) (new : CoordinatorView D) : Type 0 where
   pub durable : new.durable ≡ old.durable ++ take count old.staged
   pub staged : new.staged ≡ drop count old.staged
@@ -22,7 +22,7 @@ pub record ChecksPoint {D : Type 0} (old new : CoordinatorView D) : Type 0 where
   pub durable : new.durable ≡ next_checkpoint old
   pub staged : new.staged ≡ []
 
--- the list with what is kept behind it, and the horizon that is kept
+-- the list with what is kept after it, and the horizon that is kept
 pub record Joins {D : Type 0} (state : D → State) (honest : D → Type 0) (new : CoordinatorView D) (seen : List Entry) (low : ℕ) (tried : List Attempt) : Type 0 where
   pub tied : IsTiedUp state honest new (seen ++ behind seen (kept_of new)) (kept_of new).horizon tried
   pub raised : low ≤ (kept_of new).horizon
@@ -41,7 +41,7 @@ module _ {D : Type 0} (state : D → State) (honest : D → Type 0) where
       → IsTiedUp state honest old seen low tried → FlushesAll old new → KeepsOpen old new → IsRunning state honest new
       → Joins state honest new seen low tried
 
-  -- A checkpoint: the list is longer by all that was staged, as behind a flush. What lies below the horizon stays in it, though no record has it.
+  -- A checkpoint: the list is longer by all that was staged, as after a flush. What lies below the horizon stays in it, though no record has it.
   abbrev pub CheckpointsStayTied : Type 0
   CheckpointsStayTied = (old new : CoordinatorView D) (seen : List Entry) (low : ℕ) (tried : List Attempt)
       → IsTiedUp state honest old seen low tried → ChecksPoint old new → KeepsOpen old new → IsRunning state honest new
@@ -67,7 +67,7 @@ module _ {D : Type 0} (state : D → State) (honest : D → Type 0) (moment : D 
       → LeavesEach moment left_since old.a old.b new.a new.b (HasOldNewOrPoint old)
       → IsOpenedTied state honest store shards new seen low tried
 
-  -- An opening over devices that read what a stop may leave of them cuts nothing that was seen: the list is longer by what was found behind it.
+  -- An opening over devices that read what a stop may leave of them cuts nothing that was seen: the list is longer by what was found after it.
   abbrev pub OpeningsStayTied : Type 0
   OpeningsStayTied = (a b : D) (v : CoordinatorView D) (seen : List Entry) (low : ℕ) (tried : List Attempt)
       → Anywhere state honest a b seen low tried → left (state a) (state a).seen → left (state b) (state b).seen

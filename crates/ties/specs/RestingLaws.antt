@@ -1,4 +1,4 @@
--- A store whose nodes are all at rest, before it is opened: both ties hold of a beginning of its log; and of the empty list, where nobody has written yet.
+-- A store whose nodes are all at rest, before it is opened: both ties hold of a beginning of its log; and of the empty list, if nothing was written yet.
 use Rattle.std.specs.Prelude.{◌≡◌, ◌⊎◌, ◌≤◌, ◌<◌, ℕ, List, [], take}
 use Rattle.tuples.specs.declared.entry.Entry.{Entry}
 use Rattle.records.specs.declared.record.Record.{Record}
@@ -9,7 +9,7 @@ use Rattle.laws.specs.Worlds.{Rests}
 use Rattle.ties.specs.ShardTies.{RowsAnywhere}
 use Rattle.ties.specs.Ties.{Anywhere}
 
--- the farthest place that a shard has learned in any records that a stop may leave, or the kept one where that is farther
+-- the farthest place that a shard has learned in any records that a stop may leave, or the kept one if that is farther
 pub record IsReached (shards kept : ℕ) (shard : ℕ → List Record → Type 0) (place : ℕ) : Type 0 where
   pub above : kept ≤ place
   pub all : (s : ℕ) (found : List Record) → s < shards → shard s found → (shard_state found).learned ≤ place
@@ -39,12 +39,12 @@ module _ {D : Type 0} (state : D → State) (honest : D → Type 0) (a b : D) (d
   RestingNodesAreTied = (store shards : ℕ) (log : List Entry) (kept h place : ℕ) → IsResting store shards log kept h → IsReached shards kept shard_stops place
       → Anywhere state honest a b (take place log) h [] × ((s : ℕ) → s < shards → RowsAnywhere state honest shards s (devices s).0 (devices s).1 (take place log) h)
 
--- a device that nobody has written yet
+-- a device that nobody has written to
 pub record IsUnmade (s : State) : Type 0 where
   pub durable : s.durable ≡ []
   pub written : s.written ≡ []
 
--- Two devices that nobody has written yet are tied to the empty list, as a coordinator's and as those of any shard.
+-- Two devices that nobody has written to are tied to the empty list, as a coordinator's and as those of any shard.
 abbrev pub UnmadeNodesAreTied : {D : Type 0} → (D → State) → (D → Type 0) → Type 0
 UnmadeNodesAreTied {D} state honest = (a b : D) → honest a → honest b → IsUnmade (state a) → IsUnmade (state b)
     → Anywhere state honest a b [] 0 [] × ((shards s : ℕ) → RowsAnywhere state honest shards s a b [] 0)

@@ -43,7 +43,7 @@ module _ {D : Type 0} (state : D → State) (honest : D → Type 0) (store shard
   DropsStayTied = (old new : ShardView D) (id : WriteId) (seen : List Entry) (low : ℕ) → IsShardTiedUp state honest store shards s old seen low
       → DropsAt state honest old id new → IsShardTiedUp state honest store shards s new seen low
 
-  -- a batch of the list is learned; where it is known, the shard has all of it
+  -- a batch of the list is learned; if it is known, the shard has all of it
   abbrev pub LearningsStayTied : Type 0
   LearningsStayTied = (old new : ShardView D) (b : BatchValue) (is_known : Bool) (seen : List Entry) (low : ℕ) → IsShardTiedUp state honest store shards s old seen low
       → IsBatchOf seen b → LearnsAt state honest old b is_known new
@@ -69,7 +69,7 @@ module _ {D : Type 0} (state : D → State) (honest : D → Type 0) (store shard
   ReadsAreSeen = (v : ShardView D) (place : ℕ) (q : Tupleset) (rows : List Tuple) (seen : List Entry) (low : ℕ) → IsShardTiedUp state honest store shards s v seen low
       → ReadsAt v place q rows → (place ≤ length seen) × IsSelection (there_of shards s seen place) q rows
 
-  -- and so is what a check asks
+  -- so is what a check asks
   abbrev pub CheckReadsAreSeen : Type 0
   CheckReadsAreSeen = (v : ShardView D) (place : ℕ) (x : Userset) (u : User) (rows : List Tuple) (seen : List Entry) (low : ℕ) → IsShardTiedUp state honest store shards s v seen low
       → ReadsForCheckAt v place x u rows → (place ≤ length seen) × IsCheckSelection (there_of shards s seen place) x u rows

@@ -11,7 +11,7 @@ use Rattle.shard.specs.Shards.{IsUp, ShardView, memory}
 use Rattle.calls.specs.Views.{NodeView, coordinator, shard, refused}
 use Rattle.laws.specs.Worlds.{AreWhole, shard_node}
 
--- A shard's rows are its part of the first writes of the list, which are whole, under a horizon at or below the one that was seen. Of the list behind
+-- A shard's rows are its part of the first writes of the list, which are whole, under a horizon at or below the one that was seen. Of the list after
 -- them nothing is known here.
 pub record AreRowsOf (shards s : ℕ) (seen : List Entry) (low : ℕ) (st : ShardState) : Type 0 where
   pub learned : st.learned ≤ length seen
@@ -35,7 +35,7 @@ module _ {D : Type 0} (state : D → State) (honest : D → Type 0) where
     pub honest_b : honest b
     pub each : (rs : List Record) → Finds (left (state a)) (left (state b)) rs → AreRowsOf shards s seen low (shard_state rs)
 
-  -- a shard that was opened: what is known where it is up, and of its devices wherever
+  -- a shard that was opened: what is known if it is up, and of its devices in any case
   pub record IsOpenedShardTied (store shards s : ℕ) (v : ShardView D) (seen : List Entry) (low : ℕ) : Type 0 where
     pub up : v.is_down ≡ false → IsShardTiedUp store shards s v seen low
     pub anywhere : RowsAnywhere shards s v.a v.b seen low

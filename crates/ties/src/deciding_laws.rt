@@ -18,7 +18,7 @@ pub fn raises_stay_tied<D: Device>()
     ensures { RaisesStayTied D.state D.honest }
 {}
 
-/// A decision leaves the coordinator tied: it is one write more that is not kept, and one attempt more, at a place above all that was seen.
+/// A decision leaves the coordinator tied: it is one more write that is not kept, and one more attempt, at a place above all that was seen.
 pub fn decisions_stay_tied<D: Device>()
     ensures { DecisionsStayTied D.state D.honest }
 {}

@@ -4,12 +4,12 @@ ghost use Rattle.ties.specs.JoiningLaws.{CheckpointsStayTied, FailedCheckpointsS
 
 use device::Device;
 
-/// Of a coordinator that is up and tied a stop leaves just the list.
+/// If a coordinator is up and tied, a stop leaves just the list.
 pub fn tied_up_is_tied<D: Device>()
     ensures { TiedUpIsTied D.state D.honest }
 {}
 
-/// Once the first of what is staged is durable, its decisions are kept, and the list is longer by them.
+/// Once the beginning of what is staged is durable, its decisions are kept, and the list is longer by them.
 pub fn landings_stay_tied<D: Device, E: Device>()
     ensures { LandingsStayTied D.state D.honest E.state E.honest }
 {}
@@ -19,22 +19,22 @@ pub fn flushes_stay_tied<D: Device>()
     ensures { FlushesStayTied D.state D.honest }
 {}
 
-/// Where a device failed in a flush, a stop leaves the list, and perhaps what was staged behind it.
+/// If a device failed in a flush, a stop leaves the list, and perhaps what was staged after it.
 pub fn failed_flushes_stay_tied<D: Device>()
     ensures { (store shards : ℕ) → FailedFlushesStayTied D.state D.honest D.moment D.left_since store shards }
 {}
 
-/// A checkpoint leaves the coordinator tied to the whole list, also to what lies below the horizon and is in its records no more.
+/// A checkpoint leaves the coordinator tied to the whole list, even to what lies below the horizon and is no longer in its records.
 pub fn checkpoints_stay_tied<D: Device>()
     ensures { CheckpointsStayTied D.state D.honest }
 {}
 
-/// Where a device failed in a checkpoint, a stop leaves the list, and perhaps what was staged behind it.
+/// If a device failed in a checkpoint, a stop leaves the list, and perhaps what was staged after it.
 pub fn failed_checkpoints_stay_tied<D: Device>()
     ensures { (store shards : ℕ) → FailedCheckpointsStayTied D.state D.honest D.moment D.left_since store shards }
 {}
 
-/// An opening cuts nothing that was seen: the list is longer by what it found behind it.
+/// An opening cuts nothing that was seen: the list is longer by what it found after it.
 pub fn openings_stay_tied<D: Device>()
     ensures { (store shards : ℕ) → OpeningsStayTied D.state D.honest D.moment D.left_since store shards }
 {}

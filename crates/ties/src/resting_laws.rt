@@ -4,13 +4,13 @@ ghost use Rattle.ties.specs.RestingLaws.{RestingNodesAreTied, UnmadeNodesAreTied
 
 use device::Device;
 
-/// Where whatever a stop leaves of all nodes means a beginning of one log, all of them are tied to a beginning of it: so a store may be shared, whichever
-/// of its openings are refused.
+/// If whatever a stop leaves of all nodes means a beginning of one log, all of them are tied to a beginning of it: so a store may be shared, whichever of
+/// its openings are refused.
 pub fn resting_nodes_are_tied<D: Device>()
     ensures { (a b : D) (devices : ℕ → D × D) → RestingNodesAreTied D.state D.honest a b devices }
 {}
 
-/// Devices that nobody has written yet are tied to the empty list: so a new store may be shared.
+/// Devices that nobody has written to are tied to the empty list: so a new store may be shared.
 pub fn unmade_nodes_are_tied<D: Device>()
     ensures { UnmadeNodesAreTied D.state D.honest }
 {}

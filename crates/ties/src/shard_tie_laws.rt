@@ -9,7 +9,7 @@ pub fn longer_lists_stay_tied<D: Device>()
     ensures { (store shards s : ℕ) → LongerListsStayTied D.state D.honest store shards s }
 {}
 
-/// Of a shard that is up and tied a stop leaves its part of the list.
+/// If a shard is up and tied, a stop leaves its part of the list.
 pub fn shard_tied_up_is_tied<D: Device>()
     ensures { (store shards s : ℕ) → ShardTiedUpIsTied D.state D.honest store shards s }
 {}
@@ -24,7 +24,7 @@ pub fn drops_stay_tied<D: Device>()
     ensures { (store shards s : ℕ) → DropsStayTied D.state D.honest store shards s }
 {}
 
-/// A batch of the list leaves the shard tied, and with all of it where it says that it is known.
+/// A batch of the list leaves the shard tied, and with all of it if it says that it is known.
 pub fn learnings_stay_tied<D: Device>()
     ensures { (store shards s : ℕ) → LearningsStayTied D.state D.honest store shards s }
 {}
@@ -39,7 +39,7 @@ pub fn shard_flushes_stay_tied<D: Device>()
     ensures { (store shards s : ℕ) → ShardFlushesStayTied D.state D.honest store shards s }
 {}
 
-/// Where a device failed in a flush, a stop leaves the shard's part of the list.
+/// If a device failed in a flush, a stop leaves the shard's part of the list.
 pub fn failed_shard_flushes_stay_tied<D: Device>()
     ensures { (store shards s : ℕ) → FailedShardFlushesStayTied D.state D.honest D.moment D.left_since store shards s }
 {}
@@ -49,7 +49,7 @@ pub fn shard_checkpoints_stay_tied<D: Device>()
     ensures { (store shards s : ℕ) → ShardCheckpointsStayTied D.state D.honest store shards s }
 {}
 
-/// Where a device failed in a checkpoint, a stop leaves the shard's part of the list.
+/// If a device failed in a checkpoint, a stop leaves the shard's part of the list.
 pub fn failed_shard_checkpoints_stay_tied<D: Device>()
     ensures { (store shards s : ℕ) → FailedShardCheckpointsStayTied D.state D.honest D.moment D.left_since store shards s }
 {}

@@ -18,3 +18,5 @@ pub mod Examples
 mod Members
 pub mod Walked
 pub mod Reaching
+pub mod Packed
+pub mod Unpacked

@@ -6,48 +6,14 @@ use Rattle.std.specs.declared.cmp.Ordering.{Ordering}
 use Rattle.std.specs.declared.cmp.Ordering.TheVariants.{Less, Equal, Greater}
 use Rattle.std.proofs.lemmas.Cmp.{tied_itself, on_total, then_total, nat_list_cmp_total}
 use Rattle.tuples.specs.declared.object.Object.{Object}
-use Rattle.tuples.specs.declared.object.Userset.{Userset}
 use Rattle.tuples.specs.declared.user.User.{User}
-use Rattle.tuples.specs.declared.user.User.TheVariants.{Id, Set}
 use Rattle.tuples.specs.declared.tuple.Tuple.{Tuple}
-use Rattle.tuples.specs.Order.{name_cmp, object_cmp, userset_cmp, user_cmp, tuple_cmp, tuple_eq, tuple_lt}
+use Rattle.tuples.specs.Order.{name_cmp, object_cmp, user_cmp, tuple_cmp, tuple_eq, tuple_lt}
 use Rattle.tuples.specs.contracts.tuple.TupleOrd.TheImpl.{ghosts}
+pub use Rattle.tuples.specs.ByUser.{object_total, userset_total, user_total}
 use Rattle.tuples.specs.Reads.{AreAscending}
 use Rattle.tuples.proofs.Same.{tuple_same}
 use Rattle.tuples.proofs.Options.{same_tests}
-
-pub object_total : IsTotalOrder object_cmp
-object_total = then_total (on_total (λ (o : Object). o.namespace) nat_list_cmp_total) (on_total (λ (o : Object). o.id) nat_list_cmp_total)
-
-pub userset_total : IsTotalOrder userset_cmp
-userset_total = then_total (on_total (λ (s : Userset). s.object) object_total) (on_total (λ (s : Userset). s.relation) nat_list_cmp_total)
-
-user_antisymm : (a b : User) → user_cmp a b ≡ ordering_reverse (user_cmp b a)
-user_antisymm (Id a) (Id b) = nat_list_cmp_total.antisymm a b
-user_antisymm (Id a) (Set b) = refl
-user_antisymm (Set a) (Id b) = refl
-user_antisymm (Set a) (Set b) = userset_total.antisymm a b
-
-user_trans : (a b d : User) → user_cmp a b ≡ Less → user_cmp b d ≡ Less → user_cmp a d ≡ Less
-user_trans (Id a) (Id b) (Id d) h k = nat_list_cmp_total.trans a b d h k
-user_trans (Id a) (Id b) (Set d) h k = refl
-user_trans (Id a) (Set b) (Id d) h k = absurd cc
-user_trans (Id a) (Set b) (Set d) h k = refl
-user_trans (Set a) (Id b) (Id d) h k = absurd cc
-user_trans (Set a) (Id b) (Set d) h k = absurd cc
-user_trans (Set a) (Set b) (Id d) h k = absurd cc
-user_trans (Set a) (Set b) (Set d) h k = userset_total.trans a b d h k
-
-user_congr : (a b d : User) → user_cmp a b ≡ Equal → user_cmp a d ≡ user_cmp b d
-user_congr (Id a) (Id b) (Id d) h = nat_list_cmp_total.congr a b d h
-user_congr (Id a) (Id b) (Set d) h = refl
-user_congr (Id a) (Set b) d h = absurd cc
-user_congr (Set a) (Id b) d h = absurd cc
-user_congr (Set a) (Set b) (Id d) h = refl
-user_congr (Set a) (Set b) (Set d) h = userset_total.congr a b d h
-
-pub user_total : IsTotalOrder user_cmp
-user_total = record { antisymm = user_antisymm; trans = user_trans; congr = user_congr }
 
 pub tuple_total : IsTotalOrder tuple_cmp
 tuple_total = then_total (on_total (λ (t : Tuple). t.object) object_total) (then_total (on_total (λ (t : Tuple). t.relation) nat_list_cmp_total) (on_total (λ (t : Tuple). t.user) user_total))

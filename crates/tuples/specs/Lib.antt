@@ -15,3 +15,5 @@ pub mod Versions
 pub mod Watching
 pub mod Checking
 pub mod Walking
+pub mod ByUser
+pub mod Packing

@@ -17,6 +17,7 @@ mod limits;
 mod name;
 mod namespace;
 mod object;
+mod packed_by_user;
 mod part;
 mod participants;
 mod relation;
@@ -42,6 +43,7 @@ pub use limits::{
 };
 pub use namespace::Namespace;
 pub use object::{Object, Userset};
+pub use packed_by_user::PackedByUser;
 pub use part::{PartChanges, PartConditions, ShardPart};
 pub use refusal::Refusal;
 pub use relation::Relation;

@@ -12,7 +12,7 @@ use Rattle.turns.proofs.FlushTurn.{flushes_are_quiet}
 use Rattle.turns.proofs.QuietTurns.{quiet_calls_answer, quiet_calls_refuse}
 
 module _ (store shards : ℕ) (left after : NodeName → List Record → Type 0) where
-  -- a flow that is no write ends with an answer that agrees
+  -- a flow other than a write ends with an answer that agrees
   ends_with : (now : Moment) (next : Nodes) (m : Machine) (r : Running) (asked : Asked) (answer : Answer) → IsQuietCall store shards left after now next m → Contains now.running r
       → r.asked ≡ asked → is_write asked ≡ false → Agrees (having_seen r m) (ending now next m r (told_by answer)) asked answer
       → All (IsRightVerdict shards after (behind_call now next m)) (told_by answer) → EndsWith store shards left after now next m r answer

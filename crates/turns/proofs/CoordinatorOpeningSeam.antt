@@ -13,7 +13,7 @@ use Rattle.device.proofs.States.{revived_reads}
 no_longer : (rs : List Record) (r : Record) → rs ≡ rs ++ r ∷ [] → ⊥
 no_longer rs r same = let more = ap length same in omega (arith, more, length_push rs r)
 
--- Given the devices of a store, and those of the coordinator behind a call
+-- Given the devices of a store, and those of the coordinator after a call
 module _ {D : Type 0} (state : D → State) (honest : D → Type 0) (moment : D → ℕ) (left_since : D → ℕ → List ℕ → Type 0) (store shards : ℕ) (old new : NodeName → D × D) (new_a new_b : D)
     (over : IsOverDevices state honest moment left_since store shards old new_a new_b new) where
   pub to_node : (rs : List Record) → stops state honest store shards new coordinator rs → Finds (device_left (state new_a)) (device_left (state new_b)) rs

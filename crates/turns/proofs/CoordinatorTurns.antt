@@ -10,7 +10,7 @@ use Rattle.turns.proofs.CoordinatorCalls.{batch_right, knows, right_heads}
 use Rattle.turns.proofs.QuietTurns.{nothing_changes, quiet_calls_answer, quiet_calls_keep, quiet_calls_refuse, quiet_calls_turn}
 use Rattle.turns.proofs.SeesOn.{sees_on}
 
--- what a flow holds stays right where it has seen one machine more
+-- what a flow holds stays right if it has seen one more machine
 pub seen_on : (shards : ℕ) (left : NodeName → List Record → Type 0) (now : Moment) (r : Running) (holds : Holds) (m : Machine) (asked : Asked) (h : Holds) → IsRight shards left now r asked h
     → IsRight shards left now (with_call r holds r.met m) asked h
 seen_on shards left now r holds m (to_write changes conditions) (writing h) k = sees_on shards left now r holds m h.batch k.batch (to_write changes conditions) (writing h) k

@@ -67,7 +67,7 @@ module _ (store shards : ℕ) (left after : NodeName → List Record → Type 0)
     open_writes = record { open_writes = flush.open_writes; given = flush.given };
   }
 
-  -- where the flow was to flush the coordinator, it ends
+  -- if the flow was to flush the coordinator, it ends
   module _ (r : Running) (asked : r.asked ≡ to_flush coordinator) (goes_on : r.is_cancelled ≡ false) where
     abbrev flushed : Moment
     flushed = record now { nodes = next; machine = m; running = ended r.slot now.running }

@@ -1,4 +1,4 @@
--- Causes are those of the call that answers: beside each that is one, its like of another node, of another place or of another flow, which is none.
+-- Causes are those of the call that answers: beside each that is one, its like of another node, another place or another flow, which is not.
 use Rattle.std.proofs.Common.{◌≡◌, ◌≢◌, inl, inr, ◌≤◌, ◌<◌, ℕ, Some, None, List, [], ◌∷◌, ◌++◌, refl, sym, ◌∙◌, ap, subst, arith}
 use Rattle.std.proofs.lemmas.Option.{same_Some}
 use Rattle.turns.proofs.Words.{Calls, Collected, Decision, Down, Full, HasItsCause, HasNoRoom, Horizon, IsRecord, IsToLearn, Key, Learned, Machine, Moment, NoMemory, NodeName, NodeState, PlacedId, Prepare, Record, Running, Tuple, Tupleset, User, Userset, begun, checking, coordinator, down, latest, reading, refused, shard, shard_of, shard_state, three, to_check, to_collect, to_flush, to_learn, to_raise, to_read, to_write, up}
@@ -80,7 +80,7 @@ opened_without_memory s after there = inr ((there, refl), refl)
 abbrev all_kept : Machine
 all_kept = record { log = three; kept = 3; horizon = 3 }
 
--- a check whose place is at the horizon is not refused for a lower one, which was kept behind its first turn
+-- a check whose place is at the horizon is not refused for a lower one, which was kept after its first turn
 collected_for_an_earlier_place : (n : NodeName) (x : Userset) (u : User) (after : Moment)
     → HasItsCause 2 n (with_nodes all_kept (λ k. up [] [])) after (walking 3 (two_kept ∷ all_kept ∷ []) x u) Collected → ⊥
 collected_for_an_earlier_place n x u after (inl (s, (found, was, low))) = let same = same_Some 3 s found in omega (arith, low, same)
@@ -115,14 +115,14 @@ nothing_staged s (shard t) (Learned to placed_ids) known all (lets, more) = let 
 nothing_staged s (shard t) (Horizon place) known all stages = let bad : to_learn s ≡ to_collect t = stages in cc
 nothing_staged s n next known all stages = absurd stages
 
--- so that it is not full there, whatever the batch holds
+-- so it is not full there, whatever the batch holds
 full_of_what_is_known : (s : ℕ) (n : NodeName) (durable staged : List Record) (after : Moment) → (shard_state (durable ++ staged)).learned ≡ 2
     → HasItsCause 2 n (with_records durable staged) after (begun 0 (to_learn s)) Full → ⊥
 full_of_what_is_known s n durable staged after all (inl full) = nothing_staged s n full.next (full.durable ++ full.staged)
     (subst (λ (known : List Record). (shard_state known).learned ≡ 2) (ap records_of full.is_up) all) full.stages
 full_of_what_is_known s n durable staged after all (inr (calls, is)) = let bad : up durable staged ≡ refused Full = is in cc
 
--- but it is where something is to be learned for which there is no room
+-- but it is if something is to be learned for which there is no room
 full_of_what_is_to_be_learned : (durable staged : List Record) (to : ℕ) (placed_ids : List PlacedId) (after : Moment) → IsToLearn 2 0 two_kept (durable ++ staged) to placed_ids
     → IsRecord (Learned to placed_ids) → HasNoRoom staged (Learned to placed_ids) → HasItsCause 2 (shard 0) (with_records durable staged) after (begun 0 (to_learn 0)) Full
 full_of_what_is_to_be_learned durable staged to placed_ids after more spelled no_room = inl (record {
@@ -145,7 +145,7 @@ flush_stages m (shard t) (Learned to placed_ids) known stages = absurd stages.0
 flush_stages m (shard t) (Horizon place) known stages = let bad : to_flush m ≡ to_collect t = stages in cc
 flush_stages m n next known stages = absurd stages
 
--- so that it is full only behind the last generation, and not where there was no checkpoint
+-- so it is full only after the last generation, and not if there was no checkpoint
 full_without_checkpoint : (n m : NodeName) (after : Moment) → HasItsCause 2 n all_up after (begun 0 (to_flush m)) Full → ⊥
 unfolding generation_of
 full_without_checkpoint n m after (inl (inl full)) = flush_stages m n full.next (full.durable ++ full.staged) full.stages

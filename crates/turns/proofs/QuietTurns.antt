@@ -360,7 +360,7 @@ lets_take_memory (to_resolve s) lets = tt
 lets_take_memory (to_raise x) lets = tt
 lets_take_memory (to_collect s) lets = absurd lets
 
--- and so is one that stages a record, which is no opening, where the store goes on to stand
+-- so is one that stages a record, which is not an opening, if the store still stands
 pub one_more_staged : (store shards : ℕ) (left : NodeName → List Record → Type 0) (now : Moment) (next : Nodes) (n : NodeName) (r : Record) → StagesAt n r now.nodes next
     → ((epoch store' shards' node : ℕ) → r ≡ Epoch epoch store' shards' node → ⊥) → next.open_writes ≡ now.nodes.open_writes → next.given ≡ now.nodes.given
     → Stands store shards left (with_nodes now next) → IsQuietCall store shards left left now next now.machine
@@ -375,7 +375,7 @@ one_more_staged store shards left now next n r step no_opening open_writes given
   open_writes = record { open_writes = open_writes; given = given };
 }
 
--- Where a node stages a record, which is no opening, its flow's turn is one of a run, whatever it then holds under its id.
+-- If a node stages a record that is not an opening, its flow's turn is one of a run, whatever it then holds under its id.
 pub staged_and_goes_on : (store shards : ℕ) (left : NodeName → List Record → Type 0) (now : Moment) (next : Nodes) (n : NodeName) (record_staged : Record) → StagesAt n record_staged now.nodes next
     → ((epoch store' shards' node : ℕ) → record_staged ≡ Epoch epoch store' shards' node → ⊥) → next.open_writes ≡ now.nodes.open_writes → next.given ≡ now.nodes.given
     → (r : Running) → Contains now.running r → (holds : Holds) → id_of holds ≡ id_of r.holds

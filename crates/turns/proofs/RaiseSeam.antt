@@ -110,7 +110,7 @@ module _ (store shards : ℕ) (left : NodeName → List Record → Type 0) {D : 
       unchanged coordinator ne = absurd (ne refl)
       unchanged (shard t) ne = refl
 
-  -- behind it the store stands, and the coordinator knows a horizon at or above the place
+  -- after it the store stands, and the coordinator knows a horizon at or above the place
   abbrev IsTaken : Type 0
   IsTaken = IsQuietCall store shards left left now next now.machine × (place ≤ (coordinator_state (new.durable ++ new.staged)).horizon) × (new.open_ids ≡ old.open_ids)
 

@@ -1,4 +1,4 @@
--- Banks that have no room for a batch more.
+-- Banks that have no room for one more batch.
 use Rattle.std.proofs.Common.{inl, inr, ⊎_elim, ◌≡◌, ◌⊎◌, ◌≤◌, ◌<◌, ◌+◌, ◌^◌, ℕ, List, length, subst, ap, arith}
 use Rattle.turns.proofs.Words.{HasFailed, Record, State, left}
 use Rattle.journal.specs.Records.{LacksRoom}

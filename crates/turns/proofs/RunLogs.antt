@@ -1,4 +1,4 @@
--- What a step does to the log: it keeps it, cuts it, or lists one write of which nobody was told that it is aborted.
+-- What a step does to the log: it keeps it, cuts it, or lists one write which nobody was told is aborted.
 use Rattle.std.proofs.Common.{◌≡◌, ◌⊎◌, inl, inr, ⊎_elim, ℕ, List, [], ◌∷◌, ◌++◌, Option, Some, None, Contains, All, slice_get, sym, ◌∙◌, ap, subst, ◌+◌}
 use Rattle.std.proofs.lemmas.List.Elements.{All-head, All-tail, Contains-append_right}
 use Rattle.turns.proofs.Words.{Decides, DecidesNothing, Entry, Event, IfRunning, IsCancelled, IsOfOpening, IsQuiet, IsRun, IsUnlistedAbove, Machine, Makes, MayRise, Moment, Move, Moves, NodeName, Restarts, Running, Step, Takes, Told, Turns, WriteId, append, cancel, coordinator, cut, flow_at, keep, named_by, raise, restart, shard, slice_get_push, slice_get_taken, start, turn}
@@ -64,7 +64,7 @@ module _ (shards : ℕ) (found_before : ℕ → Type 0) (before after : Moment) 
   restarted coordinator tells is = of_log (opening_moves (MayRise shards found_before before) before.machine after.machine is.moves is.allowed.0 is.machine)
   restarted (shard s) tells is = same (subst (λ (l : List Move). Moves before.machine l after.machine) is.allowed.0 is.machine)
 
-  -- who was told that an id is aborted was told so for good
+  -- whoever was told that an id is aborted was told so for good
   pub told_unlisted : (s : Step) (tells : List Told) → Takes shards found_before before s tells after → IsUnlistedAbove h id after.machine.log
   told_unlisted (start asked) tells (inl (asks, inl begins)) = same (ap (λ (x : Moment). x.machine) begins.4)
   told_unlisted (start asked) tells (inl (asks, inr full)) = same (ap (λ (x : Moment). x.machine) full.2)

@@ -1,4 +1,4 @@
--- A flow that has seen one machine more, and holds what it held but for the decisions on their way: all of it stays right.
+-- A flow that has seen one more machine, and holds what it held except for the decisions on their way: all of it stays right.
 use Rattle.std.proofs.Common.{◌≡◌, ℕ, List, [], ◌∷◌, ◌++◌, Option, Some, Contains, slice_get, refl, arith}
 use Rattle.std.proofs.lemmas.List.Elements.{Contains-append_left}
 use Rattle.stores.specs.Moments.{SawFirst}
@@ -16,7 +16,7 @@ same_write b (resolving h) = refl
 same_write b (raising h) = refl
 same_write b (collecting h) = refl
 
--- a list that is not empty goes on to begin so
+-- a list that is not empty still begins so
 first_of : (ms : List Machine) (x m first : Machine) → Contains ms x → slice_get (ms ++ m ∷ []) 0 ≡ Some first → slice_get ms 0 ≡ Some first
 first_of [] x m first has is = absurd (omega (arith, has.1))
 first_of (y ∷ ms) x m first has is = is
@@ -45,7 +45,7 @@ module _ (r : Running) (holds : Holds) (m : Machine) where
   wanted_on (at_least z) s is = (kept_on s is.0, is.1)
   wanted_on (exact z) s is = (is.0, (is.1.0, kept_on is.1.0 is.1.1, is.1.2))
 
-  -- some place was kept behind one of its turns
+  -- some place was kept after one of its turns
   some_kept : (fresh : Freshness) (s : ℕ) → IsAsWanted fresh r s → (k : ℕ) × WasKept r k
   some_kept latest s is = (s, is)
   some_kept (at_least z) s is = (s, is.0)

@@ -15,7 +15,7 @@ module _ (store shards : ℕ) (left : NodeName → List Record → Type 0) {D : 
   held : IsRightCheck shards left now r fresh x u h
   held = subst (λ (a : Asked). IsRight shards left now r a (checking h)) own.asked (subst (λ (y : Holds). IsRight shards left now r r.asked y) own.holds (st.flows.held r own.running))
 
-  -- and behind one turn more
+  -- and after one more turn
   on : (k : CheckHolds) → IsRightCheck shards left now r fresh x u k → (holds : Holds) → IsRightCheck shards left now (with_call r holds r.met now.machine) fresh x u k
   on k right holds = sees_on shards left now r holds now.machine k.batch right.batch (to_check fresh x u) (checking k) right
 

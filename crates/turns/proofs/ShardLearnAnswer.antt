@@ -1,4 +1,4 @@
--- A learning is done where its shard learns up to the kept place of its heads.
+-- A learning is done if its shard learns up to the kept place of its heads.
 use Rattle.std.proofs.Common.{◌≡◌, ◌⊎◌, inl, inr, ⊎_elim, ℕ, ◌≤◌, ◌<◌, ◌+◌, true, true≢false, List, length, Some, Contains, refl, sym, ap, subst, arith}
 use Rattle.std.proofs.lemmas.Bool.{cases_lt}
 use Rattle.turns.proofs.Words.{AreHeldHeads, Asked, HeadsHeld, HeadsValue, Holds, IsRight, IsRightBatch, Moment, NodeName, Record, Running, ShardKnows, ShardState, ShardView, Stands, State, behind_shard, learns, memory, to_learn}

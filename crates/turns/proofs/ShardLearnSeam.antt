@@ -49,7 +49,7 @@ full_of shards n now r (to_resolve s) full = full
 full_of shards n now r (to_raise x) full = full
 full_of shards n now r (to_collect s) full = full
 
--- what a batch has behind a place is what the log has there, up to the batch's end
+-- what a batch has after a place is what the log has there, up to the batch's end
 behind_place : (log writes : List Entry) (from p : ℕ) → AreOfLog log from writes → from ≤ p → p ≤ from + length writes → drop (p - from) writes ≡ take (from + length writes - p) (drop p log)
 behind_place log writes from p are low high =
     let k = p - from in

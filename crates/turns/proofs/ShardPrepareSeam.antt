@@ -57,7 +57,7 @@ module _ (store shards : ℕ) (left : NodeName → List Record → Type 0) {D : 
   held_now = subst (λ (a : Asked). IsRight shards left now r a (writing h)) own.flow.asked
       (subst (λ (x : Holds). IsRight shards left now r r.asked x) own.holds (st.flows.held r own.flow.there))
 
-  -- where the shard changed nothing
+  -- if the shard changed nothing
   goes_on_with : (tickets : List HeldTicket) (votes : List HeldVote) → ((t : ℕ) → HoldsOf h t → HoldsOf (record h { tickets = tickets; votes = votes }) t)
       → All (IsRightTicket shards left now w) tickets → All (IsRightVote shards left now w) votes
       → StandsAndTurns store shards left now now.nodes r (with_call r (writing (record h { tickets = tickets; votes = votes })) r.met now.machine)
@@ -69,7 +69,7 @@ module _ (store shards : ℕ) (left : NodeName → List Record → Type 0) {D : 
       right = subst (λ (a : Asked). IsRight shards left now (with_call r (writing (record h { tickets = tickets; votes = votes })) r.met now.machine) a (writing (record h { tickets = tickets; votes = votes }))) (sym own.flow.asked)
           (holder_right shards left now r h w (writing (record h { tickets = tickets; votes = votes })) now tickets votes still has_id held_now right_tickets right_votes)
 
-  -- of a shard of which it holds nothing, on its way to the decision, no prepare of its write is in doubt
+  -- if it holds nothing of a shard, on its way to the decision, no prepare of its write is in doubt there
   pub not_prepared : h.way ≡ onward → (HoldsOf h s → ⊥) → find_in_doubt w.id (memory old).in_doubt ≡ None
   not_prepared way nothing = by_found (find_in_doubt w.id (memory old).in_doubt) refl
     where
@@ -188,7 +188,7 @@ module _ (store shards : ℕ) (left : NodeName → List Record → Type 0) {D : 
             ∙ ap (λ (n : ℕ). Some (part shards n w)) (sym of_shard);
       }
 
-      -- in place of the ticket there is the vote
+      -- instead of the ticket there is the vote
       still : (k : ℕ) → HoldsOf h k → HoldsOf (record h { tickets = rest; votes = h.votes ++ v ∷ [] }) k
       still k (inl held) = ⊎_elim
           (λ (same : held.0 ≡ held_ticket s t). inr (v, Contains-append_right h.votes (v ∷ []) v (alone v []), of_shard ∙ ap (λ (x : HeldTicket). x.shard) (sym same) ∙ held.2))

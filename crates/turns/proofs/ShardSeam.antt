@@ -1,4 +1,4 @@
--- A call of a shard that is up, over the shard's own records: what is known of the nodes behind it.
+-- A call of a shard that is up, over the shard's own records: what is known of the nodes after it.
 use Rattle.std.proofs.Common.{◌≡◌, ◌≢◌, ◌⊎◌, inl, inr, ⊎_elim, ◌==◌, ◌++◌, ℕ, false, List, [], ◌∷◌, Contains, refl, sym, ◌∙◌, ap, subst, append_assoc, if◌then◌else◌}
 use Rattle.std.proofs.Math.Path.{fun_ext}
 use Rattle.std.proofs.lemmas.Bool.{cases_Bool, eq-eqb, eqb-true}
@@ -28,7 +28,7 @@ module _ (s : ℕ) (state : NodeState) (at : NodeName → NodeState) where
   put_elsewhere coordinator ne = refl
   put_elsewhere (shard t) ne = ⊎_elim (λ same. absurd (ne (ap shard (eqb-true t s same)))) (λ other. at_other t other) (cases_Bool (t == s))
 
--- so it is behind a call
+-- so it is after a call
 pub here : {D : Type 0} (s : ℕ) (nodes : Nodes) (v : ShardView D) → (behind_shard s nodes v).at (shard s) ≡ up v.durable v.staged
 here s nodes v = put_here s (up v.durable v.staged) nodes.at
 
@@ -73,7 +73,7 @@ module _ (store shards : ℕ) (left : NodeName → List Record → Type 0) {D : 
     same_nodes : new ≡ old → next ≡ now.nodes
     same_nodes is = ap (λ (f : NodeName → NodeState). record now.nodes { at = f }) (fun_ext (λ n. same_at is n))
 
-    -- where the call changed nothing, the nodes are as they were
+    -- if the call changed nothing, the nodes are as they were
     pub unchanged : Stands store shards left now → new ≡ old → ShardIsSeen store shards s next new × IsQuietCall store shards left left now next now.machine
     unchanged st is = (
       record { there = seen.there; me = ap (λ (v : ShardView D). v.me) is ∙ seen.me; at = here s now.nodes new },
@@ -115,6 +115,6 @@ module _ (store shards : ℕ) (left : NodeName → List Record → Type 0) {D : 
       abbrev pub staging : Stands store shards left now → IsShardImage new.me (new.durable ++ new.staged) → IsStaging store shards left now next s r
       staging st image = record { stands = st; there = seen.there; step = step; image = longer_image image }
 
-      -- where the store goes on to stand, the call was quiet
+      -- if the store still stands, the call was quiet
       pub staged_quietly : ((e a b c : ℕ) → r ≡ Epoch e a b c → ⊥) → Stands store shards left (with_nodes now next) → IsQuietCall store shards left left now next now.machine
       staged_quietly no_opening st = one_more_staged store shards left now next (shard s) r step no_opening refl refl st

@@ -36,7 +36,7 @@ never_less_is_kept = (omega arith, refl)
 no_id_twice : (n : Machine) → Makes two_kept (append (numbered 1 (Touch (viewed 99) ∷ []) [])) n → ⊥
 no_id_twice n makes = (let e = makes.0.new 0 3 _ _ refl refl refl in omega (arith, e))
 
--- a flow that has made one turn, behind which two writes were kept
+-- a flow that has made one turn, after which two writes were kept
 abbrev pub after_one_turn : Asked → Running
 after_one_turn asked = record (begun 0 asked) { seen = two_kept ∷ [] }
 

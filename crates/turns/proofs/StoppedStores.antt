@@ -99,7 +99,7 @@ module _ {D : Type 0} (state : D → State) (honest : D → Type 0) (moment : D 
       none = λ j w is above. none j w (slice_get_taken one.n log j w is) above;
     }
 
-  -- a stop within leaves what rests; who was told that an id is aborted is right, where neither log has it above the horizon
+  -- a stop within leaves what rests; whoever was told that an id is aborted is right, if neither log has it above the horizon
   pub stopped_rests : IsLog before.log → IsLog after.log → before.horizon ≤ before.kept
       → (m : Machine) × IsStopOf before after m × RestsOver state honest store shards stopped m
       × ((id : WriteId) → IsGivenOut (stops state honest store shards old coordinator) id → IsUnlistedAbove before.horizon id before.log → IsUnlistedAbove before.horizon id after.log

@@ -41,7 +41,7 @@ staged_part (up durable staged) = durable ++ staged
 staged_part down = []
 staged_part (refused e) = []
 
--- nor is a write where nothing is in doubt
+-- nor is a write if nothing is in doubt
 busy_for_nothing : (n : NodeName) → IsBusy 2 n free_moment None (to_write (Touch (viewed 97) ∷ []) []) → ⊥
 unfolding shard_state staged_part
 busy_for_nothing n (t, has, called, held) =
@@ -49,7 +49,7 @@ busy_for_nothing n (t, has, called, held) =
     let none = subst (λ (m : ShardState). Contains m.in_doubt held.other) nothing held.in_doubt in
     omega (arith, none.1)
 
--- where all nodes are up none is refused as down
+-- if all nodes are up none is refused as down
 down_while_up : (n : NodeName) → IsDown all_up n → ⊥
 down_while_up n state = ⊎_elim (λ is. up_is_not_down is) (λ is. up_is_not_refused is) state
   where

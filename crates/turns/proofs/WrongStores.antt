@@ -12,7 +12,7 @@ use Rattle.turns.specs.Reopens.{IsOpened}
 use Rattle.std.proofs.lemmas.List.{length_push}
 use Rattle.turns.proofs.SmallRuns.{two_kept}
 
--- a flow that the store shows as running on is not read as cancelled, and one that is no write is never cancelled while it runs
+-- a flow that the store shows as running on is not read as cancelled, and one other than a write is never cancelled while it runs
 abbrev silent : Running
 silent = record (begun 0 (to_flush coordinator)) { is_cancelled = true }
 

@@ -1,4 +1,4 @@
--- Laws of the ends of flows: where the last call was quiet, and what the flow holds behind it is right, its answer agrees, in a turn of a run. Of the
+-- Laws of the ends of flows: if the last call was quiet, and what the flow holds after it is right, its answer agrees, in a turn of a run. Of the
 -- premises, that the call was quiet is the node's; what the flow is asked and holds is the flow's.
 use Rattle.std.specs.Prelude.{◌≡◌, ◌≢◌, ◌≤◌, ◌+◌, ◌-◌, ℕ, min, true, false, List, [], ◌∷◌, ◌++◌, length, Some, All, Contains}
 use Rattle.refusal.specs.declared.refusal.Refusal.{Refusal}
@@ -29,11 +29,11 @@ use Rattle.stores.specs.Stands.{IsHorizonIn, Stands}
 use Rattle.turns.specs.QuietTurns.{IsQuietCall, behind_call, ending, with_call}
 use Rattle.turns.specs.Runs.{Turns, answered, refuses, told_by}
 
--- the flow that has seen one machine more
+-- the flow that has seen one more machine
 abbrev pub having_seen : Running → Machine → Running
 having_seen r m = with_call r r.holds r.met m
 
--- The store has this id and so many shards, and a stop may leave this of each node, before the call and behind it, but for what is staged.
+-- The store has this id and this many shards, and a stop may leave this of each node, before the call and after it, except for what is staged.
 module _ (store shards : ℕ) (left after : NodeName → List Record → Type 0) where
   -- the flow ends with this answer, in a turn of a run
   abbrev pub EndsWith : Moment → Nodes → Machine → Running → Answer → Type 0
@@ -47,20 +47,20 @@ module _ (store shards : ℕ) (left after : NodeName → List Record → Type 0)
       → Contains now.running r → r.asked ≡ to_read fresh sets → IsRightRead shards after (behind_call now next m) (having_seen r m) fresh sets h
       → h.place ≡ Some place → length h.done ≡ length sets → EndsWith now next m r (selected place h.done)
 
-  -- a check that finds that a userset that waits holds its user
+  -- a check that finds that a waiting userset holds its user
   abbrev pub ChecksAnswerYes : Type 0
   ChecksAnswerYes = (now : Moment) (next : Nodes) (m : Machine) (r : Running) (fresh : Freshness) (x : Userset) (u : User) (h : CheckHolds) (place : ℕ) (y : Userset) (rows : List Tuple)
       → IsQuietCall store shards left after now next m → Contains now.running r → r.asked ≡ to_check fresh x u
       → IsRightCheck shards after (behind_call now next m) (having_seen r m) fresh x u h → h.place ≡ Some place → Contains h.waiting y
       → IsCheckSelection (is_at m.log place) y u rows → Contains rows (holding y u) → EndsWith now next m r (checked place true)
 
-  -- a check for which no userset waits
+  -- a check with no userset waiting
   abbrev pub ChecksAnswerNo : Type 0
   ChecksAnswerNo = (now : Moment) (next : Nodes) (m : Machine) (r : Running) (fresh : Freshness) (x : Userset) (u : User) (h : CheckHolds) (place : ℕ)
       → IsQuietCall store shards left after now next m → Contains now.running r → r.asked ≡ to_check fresh x u
       → IsRightCheck shards after (behind_call now next m) (having_seen r m) fresh x u h → h.place ≡ Some place → h.waiting ≡ [] → EndsWith now next m r (checked place false)
 
-  -- a watch that has the decisions from its cursor on, as many as its limit or its heads let it
+  -- a watch that has the decisions from its cursor on, as many as its limit or its heads allow
   abbrev pub WatchesAnswer : Type 0
   WatchesAnswer = (now : Moment) (next : Nodes) (m : Machine) (r : Running) (c limit : ℕ) (names : List (List ℕ)) (heads : HeadsValue) (b : BatchValue)
       → IsQuietCall store shards left after now next m → Contains now.running r → r.asked ≡ to_watch c limit names
@@ -72,7 +72,7 @@ module _ (store shards : ℕ) (left after : NodeName → List Record → Type 0)
   LearnsAnswer = (now : Moment) (next : Nodes) (m : Machine) (r : Running) (s : ℕ) (heads : HeadsValue) (memory : ShardState) → IsQuietCall store shards left after now next m
       → Contains now.running r → r.asked ≡ to_learn s → AreRightHeads (having_seen r m) m heads → ShardKnows next s memory → heads.kept ≤ memory.learned → EndsWith now next m r done
 
-  -- a resolution: what it found is right behind its last call
+  -- a resolution: what it found is right after its last call
   abbrev pub ResolvesAnswer : Type 0
   ResolvesAnswer = (now : Moment) (next : Nodes) (m : Machine) (r : Running) (s : ℕ) (found : List Resolved) → IsQuietCall store shards left after now next m
       → Contains now.running r → r.asked ≡ to_resolve s → All (IsRightResolved shards after (behind_call now next m)) found → EndsWith now next m r (resolved found)
@@ -82,7 +82,7 @@ module _ (store shards : ℕ) (left after : NodeName → List Record → Type 0)
   CollectsAnswer = (now : Moment) (next : Nodes) (m : Machine) (r : Running) (s : ℕ) → IsQuietCall store shards left after now next m
       → Contains now.running r → r.asked ≡ to_collect s → EndsWith now next m r done
 
-  -- a raise that the coordinator took: with the flush behind it the horizon is there
+  -- a raise that the coordinator took: with the flush after it the horizon is there
   abbrev pub RaisesAnswer : Type 0
   RaisesAnswer = (now : Moment) (next : Nodes) (r : Running) (x : ℕ) (h : RaiseHolds) → Stands store shards left now → (flush : FlushesCoordinator left after now.nodes next)
       → Contains now.running r → r.asked ≡ to_raise x → r.holds ≡ raising h → h.is_raised ≡ true
@@ -101,7 +101,7 @@ module _ (store shards : ℕ) (left after : NodeName → List Record → Type 0)
   CoordinatorFlushesAreQuiet = (now : Moment) (next : Nodes) → Stands store shards left now → (flush : FlushesCoordinator left after now.nodes next)
       → IsQuietCall store shards left after now next (all_kept now.machine (flush.durable ++ flush.staged))
 
-  -- and so is one that fails, and Down has its cause then
+  -- so is one that fails, and Down has its cause then
   abbrev pub FailedFlushesAreQuiet : Type 0
   FailedFlushesAreQuiet = (now : Moment) (next : Nodes) → Stands store shards left now → FailsFlush left after now.nodes next
       → (call : IsQuietCall store shards left after now next now.machine)

@@ -28,7 +28,7 @@ pub record IsFresh {D : Type 0} (v : CoordinatorView D) : Type 0 where
   pub open_ids : v.open_ids ≡ []
   pub given : v.given ≡ 0
 
--- the nodes behind an opening of the coordinator that was refused
+-- the nodes after an opening of the coordinator that was refused
 abbrev pub behind_refusal : Nodes → Refusal → Nodes
 behind_refusal nodes e = record { at = at_coordinator (refused e) nodes.at; open_writes = []; given = nodes.given }
 
@@ -60,7 +60,7 @@ module _ {D : Type 0} (state : D → State) (honest : D → Type 0) (moment : D 
       → let next = behind now.nodes v now.nodes.open_writes in
       IsSeen next v × FlushesCoordinator (stops state honest store shards old) (stops state honest store shards new) now.nodes next
 
-  -- and so is one that fails, and takes the coordinator down
+  -- so is one that fails, and takes the coordinator down
   abbrev pub FailsOverDevices : Type 0
   FailsOverDevices = (old new : NodeName → D × D) (now : Moment) (was v : CoordinatorView D) → IsSeen now.nodes was
       → IsOverDevices old v.a v.b new → honest v.a → honest v.b
@@ -77,7 +77,7 @@ module _ {D : Type 0} (state : D → State) (honest : D → Type 0) (moment : D 
       × Restarts shards (IsHorizonIn store shards (stops state honest store shards old) now.nodes) now coordinator (came_up ∷ []) later
       × ComesUp state honest moment left_since store shards old coordinator (next.at coordinator)
 
-  -- and so is one that is refused, for Down, NoMemory or Full, over the same machine
+  -- so is one that is refused, for Down, NoMemory or Full, over the same machine
   abbrev pub RefusedOpeningsStep : Type 0
   RefusedOpeningsStep = (old new : NodeName → D × D) (now : Moment) (a b new_a new_b : D) (e : Refusal) → Stands store shards (stops state honest store shards old) now
       → AreRevived state honest moment left_since store shards old coordinator a b → IsOfRefusedOpening e → OpensOverDevices old a b new_a new_b new
@@ -85,13 +85,13 @@ module _ {D : Type 0} (state : D → State) (honest : D → Type 0) (moment : D 
       Stands store shards (stops state honest store shards new) later
       × Restarts shards (IsHorizonIn store shards (stops state honest store shards old) now.nodes) now coordinator (refuses e ∷ []) later
 
-  -- one that answers Full was opened as often as can be
+  -- one that answers Full was opened as often as possible
   abbrev pub FullCoordinatorsWereOpened : Type 0
   FullCoordinatorsWereOpened = (old : NodeName → D × D) (a b : D) → AreRevived state honest moment left_since store shards old coordinator a b
       → ((rs : List Record) × (found (state a).seen (state b).seen ≡ Some rs) × IsCoordinatorImage (coordinator_node store shards) rs × ((coordinator_state rs).epoch ≡ greatest_number))
       → (was : List Record) × stops state honest store shards old coordinator was × (epoch_of coordinator was ≡ greatest_number)
 
-  -- where a device fails in it, a device of the coordinator failed
+  -- if a device fails in it, a device of the coordinator failed
   abbrev pub FailedOpeningsHaveCause : Type 0
   FailedOpeningsHaveCause = (old new : NodeName → D × D) (a b : D) → AreRevived state honest moment left_since store shards old coordinator a b
       → HasFailed (state a) (state (new coordinator).0) ⊎ HasFailed (state b) (state (new coordinator).1)

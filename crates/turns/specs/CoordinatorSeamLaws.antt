@@ -41,8 +41,8 @@ with_heads v (resolving h) = resolving h
 with_heads v (raising h) = raising (record h { heads = Some v })
 with_heads v (collecting h) = collecting (record h { heads = Some v })
 
--- the place that heads give to an answer: the kept one; the kept one, where it is not below the one given; or the one given, where it is kept and not
--- below the horizon
+-- the place that heads give to an answer: the kept one; the kept one, if it is not below the one given; or the one given, if it is kept and not below
+-- the horizon
 abbrev pub FindsPlace : Freshness → HeadsValue → ℕ → Type 0
 FindsPlace latest v place = place ≡ v.kept
 FindsPlace (at_least z) v place = (place ≡ v.kept) × (z ≤ place)
@@ -80,7 +80,7 @@ verdict_with (committed id place) = None
 verdict_with (aborted id) = Some id
 verdict_with (undecided id) = None
 
--- a resolution that has asked for one write more
+-- a resolution that has asked for one more write
 abbrev pub with_resolved : Resolved → ResolveHolds → Holds
 with_resolved x h = resolving (record h { found = h.found ++ x ∷ []; verdict = verdict_with x })
 
@@ -95,15 +95,15 @@ pub record HasDecided (now : Moment) (r : Running) (changes : List Change) (cond
 abbrev pub IsForgotten : Nodes → DecidedValue → Type 0
 IsForgotten nodes d = (kept memory : CoordinatorState) → CoordinatorKnows nodes kept memory → d.epoch ≢ memory.epoch
 
--- The store has this id and so many shards, and a stop may leave this of each node, but for what is staged.
+-- The store has this id and this many shards, and a stop may leave this of each node, except for what is staged.
 module _ (store shards : ℕ) (left : NodeName → List Record → Type 0) where
-  -- behind a call that leaves the nodes and the machine the store stands, and the turn is one of a run
+  -- after a call that leaves the nodes and the machine the store stands, and the turn is one of a run
   abbrev pub TurnsTo : Moment → Running → Running → Type 0
   TurnsTo now r later =
       let ran = going_on now now.nodes now.machine later in
       Stands store shards left ran × Turns shards (IsHorizonIn store shards left now.nodes) now r (told_unless r.is_cancelled) ran
 
-  -- a flow that learned nothing, as a write whose decision is staged still, goes on with what it holds, in a turn
+  -- a flow that learned nothing, as a write whose decision is still staged, goes on with what it holds, in a turn
   abbrev pub StillTurns : Type 0
   StillTurns = (now : Moment) (r : Running) → Stands store shards left now → Contains now.running r → TurnsTo now r (with_call r r.holds r.met now.machine)
 
@@ -118,7 +118,7 @@ module _ (store shards : ℕ) (left : NodeName → List Record → Type 0) where
       → r.asked ≡ to_write changes conditions → r.holds ≡ writing h → h.id ≡ Some id → IsRightVerdict shards left now id
       → TurnsTo now r (with_call r (writing (record h { verdict = Some id })) r.met now.machine)
 
-  -- where the coordinator failed, or was opened since the decision, its flow ends with Unsure, which has its cause
+  -- if the coordinator failed, or was opened since the decision, its flow ends with Unsure, which has its cause
   abbrev pub UnsureAnswers : Type 0
   UnsureAnswers = (now : Moment) (r : Running) (changes : List Change) (conditions : List Condition) (h : WriteHolds) (d : DecidedValue)
       → Stands store shards left now → HasDecided now r changes conditions h d → IsForgotten now.nodes d → r.is_cancelled ≡ false
@@ -143,7 +143,7 @@ module _ (store shards : ℕ) (left : NodeName → List Record → Type 0) where
     HeadsHaveCause = (now after : Moment) (v : CoordinatorView D) (r : Running) → Stands store shards left now → IsSeen now.nodes v
         → (AsksAbove (heads_of v) r.asked → IsCause shards coordinator now after r Future) × (AsksBelow (heads_of v) r.asked → IsCause shards coordinator now after r Collected)
 
-    -- the decisions behind a place are those of the log, and so many
+    -- the decisions after a place are those of the log, and this many
     abbrev pub BatchAnswers : Type 0
     BatchAnswers = (now : Moment) (v : CoordinatorView D) (from to : ℕ) (b : BatchValue) → Stands store shards left now → IsSeen now.nodes v → from ≤ to → BatchesAt v from to b
         → IsRightBatch now.machine b × (length b.writes ≡ min (to - from) max_batch)
@@ -153,7 +153,7 @@ module _ (store shards : ℕ) (left : NodeName → List Record → Type 0) where
     BatchTurns = (now : Moment) (v : CoordinatorView D) (r : Running) (from to : ℕ) (b : BatchValue) → Stands store shards left now → IsSeen now.nodes v → Contains now.running r
         → from ≤ to → BatchesAt v from to b → TurnsTo now r (with_call r (with_batch (Some b) r.holds) r.met now.machine)
 
-    -- up to a kept place no batch is refused with Future; and where one from a watch's cursor on is refused with Collected, that has its cause
+    -- up to a kept place no batch is refused with Future; and if one from a watch's cursor on is refused with Collected, that has its cause
     abbrev pub BatchHasCause : Type 0
     BatchHasCause = (now after : Moment) (v : CoordinatorView D) (r : Running) (from to : ℕ) → Stands store shards left now → IsSeen now.nodes v
         → (to ≤ now.machine.kept → end_of (kept_of v) < to → ⊥)
@@ -180,7 +180,7 @@ module _ (store shards : ℕ) (left : NodeName → List Record → Type 0) where
     abbrev pub DecisionsAreForgotten : Type 0
     DecisionsAreForgotten = (nodes : Nodes) (v : CoordinatorView D) (d : DecidedValue) → IsSeen nodes v → v.is_down ≡ false → (IsOfNow v d → ⊥) → IsForgotten nodes d
 
-    -- where it finds a write closed, or decided, its flow was cut off; and where it has no room or no place for the decision, that is so
+    -- if it finds a write closed, or decided, its flow was cut off; and if it has no room or no place for the decision, that is so
     abbrev pub DecideHasCause : Type 0
     DecideHasCause = (now after : Moment) (v : CoordinatorView D) (r : Running) (h : WriteHolds) (w : Entry) (intent : IntentValue) → Stands store shards left now → IsSeen now.nodes v
         → IsUndecidedFlow now r h w → h.intent ≡ Some intent

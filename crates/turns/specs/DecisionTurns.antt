@@ -1,4 +1,4 @@
--- A law of a decision: behind it the store stands with the flow that decides in its slot, and the step is a turn of a run.
+-- A law of a decision: after it the store stands with the flow that decides in its slot, and the step is a turn of a run.
 use Rattle.std.specs.Prelude.{ℕ, List, [], ◌∷◌}
 use Rattle.tuples.specs.declared.entry.Entry.{Entry}
 use Rattle.records.specs.declared.record.Record.{Record}
@@ -9,7 +9,7 @@ use Rattle.stores.specs.Moments.{Moment, Running, replaced}
 use Rattle.stores.specs.Stands.{IsHorizonIn, Stands}
 use Rattle.turns.specs.Runs.{Turns, goes_on}
 
--- The store has this id and so many shards, and a stop may leave this of each node, but for what is staged.
+-- The store has this id and this many shards, and a stop may leave this of each node, except for what is staged.
 module _ (store shards : ℕ) (left : NodeName → List Record → Type 0) where
   -- with the flow that decided in its slot the store stands, and the step is a turn of a run in which the flow decides
   abbrev pub DecidersTurn : Type 0

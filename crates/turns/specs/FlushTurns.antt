@@ -14,7 +14,7 @@ use Rattle.stores.specs.Replies.{done}
 use Rattle.stores.specs.Stands.{IsHorizonIn, Stands}
 use Rattle.turns.specs.Runs.{Turns, answered, refuses}
 
--- the flow that flushes, behind its call
+-- the flow that flushes, after its call
 abbrev pub with_flush : Running → Machine → Running
 with_flush r m = record r { seen = r.seen ++ m ∷ [] }
 
@@ -34,8 +34,8 @@ FailedFlushesAnswer store shards left after = (now : Moment) (next : Nodes) (r :
     → let later = record now { nodes = next; running = ended r.slot now.running } in
     Stands store shards after later × Turns shards (IsHorizonIn store shards left now.nodes) now r (refuses Down ∷ []) later
 
--- A running flow that is to flush a shard, and is not cancelled, flushes it: it ends, done where the shard is up and with Down where it is not, in a turn
--- of a run.
+-- A running flow that is to flush a shard, and is not cancelled, flushes it: it ends, done if the shard is up and with Down if it is not, in a turn of a
+-- run.
 abbrev pub ShardFlushesAnswer : ℕ → ℕ → (NodeName → List Record → Type 0) → (NodeName → List Record → Type 0) → Type 0
 ShardFlushesAnswer store shards left after = (now : Moment) (next : Nodes) (s : ℕ) (r : Running) → Stands store shards left now → s < shards
     → (flush : FlushesShard s left after now.nodes next) → IsShardImage (shard_node store shards s) (flush.durable ++ flush.staged)

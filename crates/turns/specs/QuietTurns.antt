@@ -19,11 +19,11 @@ use Rattle.stores.specs.Stands.{IsHorizonIn, Stands}
 use Rattle.turns.specs.Runs.{IsQuiet, KeepsOpen, MayRise, Turns, answered, refuses, told_by}
 use Rattle.turns.specs.SeamLaws.{told_unless}
 
--- the moment behind a call, with the flows as they were
+-- the moment after a call, with the flows as they were
 abbrev pub behind_call : Moment → Nodes → Machine → Moment
 behind_call now next m = record now { nodes = next; machine = m }
 
--- the flow that called: what it holds and has met now, and one machine more that it has seen
+-- the flow that called: what it holds and has met now, and one more machine that it has seen
 abbrev pub with_call : Running → Holds → Option Refusal → Machine → Running
 with_call r holds met m = record r { holds = holds; met = met; seen = r.seen ++ m ∷ [] }
 
@@ -59,7 +59,7 @@ batch_of (resolving h) = h.batch
 batch_of (raising h) = h.batch
 batch_of (collecting h) = h.batch
 
--- what a write flow holds, with some of it spent; where it goes is not said here, but that on its way to the decision it keeps what shards gave
+-- what a write flow holds, with some of it spent; where it goes is not said here, except that on its way to the decision it keeps what shards gave
 pub record HoldsLess (old new : WriteHolds) : Type 0 where
   pub id : new.id ≡ old.id
   pub intent : (i : IntentValue) → new.intent ≡ Some i → old.intent ≡ Some i
@@ -70,15 +70,15 @@ pub record HoldsLess (old new : WriteHolds) : Type 0 where
   pub verdict : (id : WriteId) → new.verdict ≡ Some id → old.verdict ≡ Some id
   pub gave : new.way ≡ onward → (old.way ≡ onward) × (new.tickets ≡ old.tickets) × (new.votes ≡ old.votes)
 
--- a node answers each call with this: Down where it is down, or what its opening was refused for
+-- a node answers each call with this: Down if it is down, or what its opening was refused for
 abbrev pub IsAway : Nodes → NodeName → Refusal → Type 0
 IsAway nodes n e = ((nodes.at n ≡ down) × (e ≡ Down)) ⊎ (nodes.at n ≡ refused e)
 
--- behind a call of this node the flow has met what it had met, or a refusal that has its cause there
+-- after a call of this node the flow has met what it had met, or a refusal that has its cause there
 abbrev pub HasMet : ℕ → NodeName → Moment → Moment → Running → Option Refusal → Type 0
 HasMet shards n before after r met = (met ≡ r.met) ⊎ ((e : Refusal) × (met ≡ Some e) × HasItsCause shards n before after r e)
 
--- The store has this id and so many shards, and a stop may leave this of each node, before the call and behind it, but for what is staged.
+-- The store has this id and this many shards, and a stop may leave this of each node, before the call and after it, except for what is staged.
 module _ (store shards : ℕ) (left after : NodeName → List Record → Type 0) where
   -- A quiet call leaves the store standing with the flows as they were. It changes one node as a call may, and of the machine no more than a turn in which
   -- nothing is decided.
@@ -106,7 +106,7 @@ module _ (store shards : ℕ) (left after : NodeName → List Record → Type 0)
       (step : IsQuietStep now next m r later) → HasMet shards step.call.node now ran r met
       → Stands store shards after ran × Turns shards (IsHorizonIn store shards left now.nodes) now r (told_unless r.is_cancelled) ran
 
-  -- it goes on with what it held, but for the decisions on their way: those that it holds now are the log's and kept
+  -- it goes on with what it held, except for the decisions on their way: those that it holds now are the log's and kept
   abbrev pub QuietCallsKeep : Type 0
   QuietCallsKeep = (now : Moment) (next : Nodes) (m : Machine) (r : Running) (b : Option BatchValue) → IsQuietCall now next m → Contains now.running r → IfHeld b (IsRightBatch m)
       → let ran = going_on now next m (with_call r (with_batch b r.holds) r.met m) in
@@ -120,7 +120,7 @@ module _ (store shards : ℕ) (left after : NodeName → List Record → Type 0)
       Agrees later ran r.asked answer → All (IsRightVerdict shards after (behind_call now next m)) (told_by answer)
       → Stands store shards after ran × Turns shards (IsHorizonIn store shards left now.nodes) now r (answered answer ∷ []) ran
 
-  -- it ends with a refusal: with Unsure only a flow that has decided, and such a flow with no other
+  -- it ends with a refusal: with Unsure only if it has decided, and then with no other
   abbrev pub QuietCallsRefuse : Type 0
   QuietCallsRefuse = (now : Moment) (next : Nodes) (m : Machine) (r : Running) (e : Refusal) → (call : IsQuietCall now next m) → Contains now.running r
       → r.is_cancelled ≡ false → (r.decided ≡ None → e ≢ Unsure) → (e ≢ Unsure → r.decided ≡ None)
@@ -150,7 +150,7 @@ module _ (store shards : ℕ) (left after : NodeName → List Record → Type 0)
       HasItsCause shards call.node now ran r e
       → Stands store shards after ran × Turns shards (IsHorizonIn store shards left now.nodes) now r (told_unless r.is_cancelled) ran
 
-  -- a flow that is no write ends with a refusal that has its cause
+  -- a flow other than a write ends with a refusal that has its cause
   abbrev pub RefusedFlowsEnd : Type 0
   RefusedFlowsEnd = (now : Moment) (next : Nodes) (m : Machine) (r : Running) (e : Refusal) → (call : IsQuietCall now next m) → Contains now.running r
       → is_write r.asked ≡ false → e ≢ Unsure

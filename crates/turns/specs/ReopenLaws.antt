@@ -18,7 +18,7 @@ closed_nodes = record { at = λ n. down; open_writes = []; given = 0 }
 abbrev pub closed_at : Machine → Moment
 closed_at m = record { machine = m; nodes = closed_nodes; running = []; told = []; named = [] }
 
--- of the coordinator a stop leaves only what was found, which it could leave before; of a shard it leaves no more than before
+-- a stop leaves of the coordinator only what was found, which it could leave before, and of a shard no more than before
 pub record FindsCoordinator (left after : NodeName → List Record → Type 0) (found : List Record) : Type 0 where
   pub was_left : left coordinator found
   pub here : (rs : List Record) → after coordinator rs → rs ≡ found

@@ -29,8 +29,8 @@ module _ {D : Type 0} (state : D → State) (honest : D → Type 0) (moment : D 
   abbrev pub IsOpened : (NodeName → D × D) → Store D → NodeName → Type 0
   IsOpened old new n = ComesUp state honest moment left_since store shards old n (new.at n) ⊎ ((e : Refusal) × (new.at n ≡ refused e) × IsOfRefusedOpening e)
 
-  -- A store that is opened again over devices that rest: it has cut, kept and raised no further than to what was found; no flow runs; who was told that
-  -- a write is aborted was told so for good; each node is up or refused with its cause, and all is kept that a coordinator that is up has found.
+  -- A store that is opened again over devices that rest: it has cut, kept and raised no further than to what was found; no flow runs; whoever was told
+  -- that a write is aborted was told so for good; each node is up or refused with its cause, and all that a coordinator that is up has found is kept.
   pub record Reopened (old : NodeName → D × D) (m : Machine) (told : List WriteId) (new : Store D) : Type 0 where
     pub after : Moment
     pub opened : IsOpenedFrom old m after.machine
@@ -47,7 +47,7 @@ module _ {D : Type 0} (state : D → State) (honest : D → Type 0) (moment : D 
   Reopens old new = (m : Machine) (told : List WriteId) → RestsOver state honest store shards old m → All (IsToldOver state honest store shards old m) told
       → (reopened : Reopened old m told new) × StopsBetween state honest moment left_since store shards old new.devices m reopened.after.machine
 
-  -- an opening that ends for lack of memory hands its devices back: they rest where moves of an opening lead, and what was told stays so
+  -- an opening that ends for lack of memory returns its devices: they rest at a machine to which moves of an opening lead, and what was told stays so
   pub record HandedBack (old new : NodeName → D × D) (m : Machine) (told : List WriteId) : Type 0 where
     pub after : Machine
     pub opened : IsOpenedFrom old m after

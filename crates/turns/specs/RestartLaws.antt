@@ -16,7 +16,7 @@ use Rattle.stores.specs.Stands.{IsHorizonIn, Stands}
 use Rattle.turns.specs.Runs.{Restarts, came_up, refuses}
 use Rattle.laws.specs.Stops.{RestsBetween}
 
--- records that a stop could leave of the coordinator, with the record of an opening behind them
+-- records that a stop could leave of the coordinator, followed by the record of an opening
 pub record IsReopenedCoordinator (store shards : ℕ) (left : NodeName → List Record → Type 0) (rs : List Record) : Type 0 where
   pub found : List Record
   pub epoch : ℕ
@@ -24,7 +24,7 @@ pub record IsReopenedCoordinator (store shards : ℕ) (left : NodeName → List 
   pub is : rs ≡ found ++ Epoch epoch store shards coordinator_number ∷ []
   pub image : IsCoordinatorImage (coordinator_node store shards) (found ++ Epoch epoch store shards coordinator_number ∷ [])
 
--- records that a stop could leave of shard s, with the record of an opening behind them
+-- records that a stop could leave of shard s, followed by the record of an opening
 pub record IsReopenedShard (store shards s : ℕ) (left : NodeName → List Record → Type 0) (rs : List Record) : Type 0 where
   pub found : List Record
   pub epoch : ℕ
@@ -64,11 +64,11 @@ pub record RefusesShard (store shards s : ℕ) (left after : NodeName → List R
 abbrev pub cut_to : Machine → CoordinatorState → Machine
 cut_to m found = record { log = take (end_of found) m.log; kept = end_of found; horizon = found.horizon }
 
--- the moment behind an opening of the coordinator: with these nodes, this machine, and each flow marked
+-- the moment after an opening of the coordinator: with these nodes, this machine, and each flow marked
 abbrev pub with_restart : Moment → Nodes → Machine → Moment
 with_restart now next m = record now { nodes = next; machine = m; running = reopened now.running }
 
--- Given a store's id and number of shards, and what a stop may leave of each node before an opening and behind it
+-- Given a store's id and number of shards, and what a stop may leave of each node before an opening and after it
 module _ (store shards : ℕ) (left after : NodeName → List Record → Type 0) where
   -- an opening of the coordinator leaves the store standing for the machine cut to what was found, and is a step of a run
   abbrev pub CoordinatorOpeningsStand : Type 0

@@ -1,4 +1,4 @@
--- Banks without room: where a flush, a checkpoint or an opening went wrong for lack of it, the node's device has the cause.
+-- Banks without room: if a flush, a checkpoint or an opening failed for lack of it, the node's device has the cause.
 use Rattle.std.specs.Prelude.{◌≡◌, ℕ, List}
 use Rattle.records.specs.declared.record.Record.{Record}
 use Rattle.device.specs.Device.{State}

@@ -35,14 +35,14 @@ pub record Event : Type 0 where
   pub step : ℕ
   pub told : Told
 
--- the ids that an answer tells to be aborted
+-- the ids that an answer says are aborted
 abbrev pub aborted_ids : List Resolved → List WriteId
 aborted_ids [] = []
 aborted_ids (committed id p ∷ found) = aborted_ids found
 aborted_ids (aborted id ∷ found) = id ∷ aborted_ids found
 aborted_ids (undecided id ∷ found) = aborted_ids found
 
--- the ids that an answer tells to be aborted, of a resolution alone
+-- the ids that an answer says are aborted, of a resolution alone
 abbrev pub told_by : Answer → List WriteId
 told_by (resolved found) = aborted_ids found
 told_by (wrote i) = []
@@ -91,7 +91,7 @@ pub record ClosesOwn (old new : Nodes) (r : Running) : Type 0 where
   pub open_writes : new.open_writes ≡ without id old.open_writes
   pub given : new.given ≡ old.given
 
--- what a turn may do to the open writes: of other flows' nothing; and where it begins and closes none its flow has the id that it had, or none
+-- what a turn may do to the open writes: nothing to those of other flows; and if it begins and closes none, its flow has the id that it had, or none
 abbrev pub OpenTurns : Nodes → Nodes → Running → Running → Type 0
 OpenTurns old new r later = (KeepsOpen old new × (id_of later.holds ≡ id_of r.holds)) ⊎ (OpensOwn old new r later ⊎ ClosesOwn old new r)
 
@@ -99,14 +99,14 @@ OpenTurns old new r later = (KeepsOpen old new × (id_of later.holds ≡ id_of r
 abbrev pub KeepsId : Running → Running → Type 0
 KeepsId r later = (id : WriteId) → id_of r.holds ≡ Some id → id_of later.holds ≡ Some id
 
--- The store has so many shards. Before the run a record of the coordinator raised the horizon to these places.
+-- The store has this many shards. Before the run a record of the coordinator raised the horizon to these places.
 module _ (shards : ℕ) (found_before : ℕ → Type 0) where
   -- the horizon may rise to a place that a flow was asked for, or that a record of the coordinator named before
   abbrev pub MayRise : Moment → ℕ → Type 0
   MayRise before x = Contains before.named x ⊎ found_before x
 
-  -- A turn in which a write flow makes its decision, its first and only one: it lists its own write under the id that it holds, of which nobody
-  -- was told that it is aborted.
+  -- A turn in which a write flow makes its decision, its first and only one: it lists its own write under the id that it holds, which nobody
+  -- was told is aborted.
   pub record Decides (before : Moment) (r : Running) (moves : List Move) (after : Moment) (later : Running) : Type 0 where
     pub write : Entry
     pub own : r.asked ≡ to_write write.changes write.conditions
@@ -122,7 +122,7 @@ module _ (shards : ℕ) (found_before : ℕ → Type 0) where
     pub moves_are : All (IsQuiet (MayRise before)) moves
     pub decided : later.decided ≡ r.decided
 
-  -- a flow behind its turn, which called this node: it has seen the machine, and met no refusal without a cause there
+  -- a flow after its turn, which called this node: it has seen the machine, and met no refusal without a cause there
   pub record IsTurned (node : NodeName) (before : Moment) (r : Running) (moves : List Move) (after : Moment) (later : Running) : Type 0 where
     pub slot : later.slot ≡ r.slot
     pub asked : later.asked ≡ r.asked
@@ -196,7 +196,7 @@ module _ (shards : ℕ) (found_before : ℕ → Type 0) where
   OpensAs n after goes_on = ⊥
   OpensAs n after (answered answer) = ⊥
 
-  -- what an opening may do to the machine: that of a shard nothing
+  -- what an opening may do to the machine: a shard's does nothing
   abbrev pub OpeningMoves : NodeName → Moment → List Move → List Running → Type 0
   OpeningMoves coordinator before moves running = All (IsOfOpening (MayRise before)) moves × (running ≡ reopened before.running)
   OpeningMoves (shard s) before moves running = (moves ≡ []) × (running ≡ before.running)
@@ -216,14 +216,14 @@ module _ (shards : ℕ) (found_before : ℕ → Type 0) where
   IfRunning P None before told after = IsIdle before told after
   IfRunning P (Some r) before told after = P before r told after
 
-  -- One step tells this and leads from one moment to the next. A step that names no flow that runs, or no node that is there, is idle.
+  -- One step tells this and leads from one moment to the next. A step that names no running flow, or no node that is there, is idle.
   abbrev pub Takes : Moment → Step → List Told → Moment → Type 0
   Takes before (start asked) told after = (IsAsked shards asked × Begins before asked told after) ⊎ ((IsAsked shards asked → ⊥) × IsIdle before told after)
   Takes before (turn slot) told after = IfRunning Turns (flow_at slot before.running) before told after
   Takes before (cancel slot) told after = IfRunning IsCancelled (flow_at slot before.running) before told after
   Takes before (restart n) told after = (IsThere shards n × Restarts before n told after) ⊎ ((IsThere shards n → ⊥) × IsIdle before told after)
 
-  -- these steps, the first of which has a number, lead from one moment to another and tell these events
+  -- these steps, numbered from this number on, lead from one moment to another and tell these events
   abbrev pub IsRun : ℕ → Moment → List Step → List Event → Moment → Type 0
   IsRun number before [] events after = (events ≡ []) × (after ≡ before)
   IsRun number before (s ∷ steps) events after = (mid : Moment) × (told : List Told) × (rest : List Event)

@@ -25,16 +25,16 @@ pub record IsSeen {D : Type 0} (nodes : Nodes) (v : CoordinatorView D) : Type 0 
   pub open_writes : map (λ (w : Entry). w.id) nodes.open_writes ≡ v.open_ids
   pub given : nodes.given ≡ v.given
 
--- the coordinator's state in place of the one that it had
+-- the coordinator's state instead of the one that it had
 abbrev pub at_coordinator : NodeState → (NodeName → NodeState) → NodeName → NodeState
 at_coordinator state at coordinator = state
 at_coordinator state at (shard s) = at (shard s)
 
--- the nodes behind a call of the coordinator, which is up
+-- the nodes after a call of the coordinator, which is up
 abbrev pub behind : {D : Type 0} → Nodes → CoordinatorView D → List Entry → Nodes
 behind nodes v open_writes = record { at = at_coordinator (up v.durable v.staged) nodes.at; open_writes = open_writes; given = v.given }
 
--- a decision of a flow that holds votes of all that take part, by the contract of the call alone, is a turn of a run: it leaves the store standing,
+-- a decision of a flow that holds votes of all participants, by the contract of the call alone, is a turn of a run: it leaves the store standing,
 -- over nodes that are seen as the call left them
 abbrev pub DecideTurns : ℕ → ℕ → (NodeName → List Record → Type 0) → Type 0 → Type 0
 DecideTurns store shards left D = (now : Moment) (old new : CoordinatorView D) (w : Entry) (d : DecidedValue) (r : Running) (h : WriteHolds) (intent : IntentValue)
@@ -69,12 +69,12 @@ abbrev pub BeginHasCause : ℕ → ℕ → (NodeName → List Record → Type 0)
 BeginHasCause store shards left D = (now after : Moment) (old : CoordinatorView D) (changes : List Change) (conditions : List Condition) (e : Refusal) (r : Running)
     → Stands store shards left now → IsSeen now.nodes old → r.asked ≡ to_write changes conditions → BeginsRefused old conditions e → IsCause shards coordinator now after r e
 
--- what a turn tells in which its flow goes on: nothing where the flow was cancelled
+-- what a turn in which its flow goes on tells: nothing if the flow was cancelled
 abbrev pub told_unless : Bool → List Told
 told_unless true = []
 told_unless false = goes_on ∷ []
 
--- a write that is aborted, by the contract of the call alone, is a turn of a run, behind which its flow has the verdict
+-- a write that is aborted, by the contract of the call alone, is a turn of a run, after which its flow has the verdict
 abbrev pub AbortTurns : ℕ → ℕ → (NodeName → List Record → Type 0) → Type 0 → Type 0
 AbortTurns store shards left D = (now : Moment) (old new : CoordinatorView D) (r : Running) (h : WriteHolds) (w : Entry) → Stands store shards left now → IsSeen now.nodes old → AbortsAt old w.id new
     → IsUndecidedFlow now r h w

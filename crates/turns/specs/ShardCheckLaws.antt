@@ -35,17 +35,17 @@ pub record IsChecker (now : Moment) (r : Running) (fresh : Freshness) (x : Users
   pub holds : r.holds ≡ checking h
   pub at_place : h.place ≡ Some place
 
--- The store has this id and so many shards, and a stop may leave this of each node, but for what is staged. That the store stands, that the shard is seen
--- so and what it read are the call's premises; the others are the flow's. D is what a device is.
+-- The store has this id and this many shards, and a stop may leave this of each node, except for what is staged. That the store stands, that the shard is
+-- seen so and what it read are the call's premises; the others are the flow's. D is what a device is.
 module _ (store shards : ℕ) (left : NodeName → List Record → Type 0) (D : Type 0) where
-  -- what a userset's own shard read for a check is a turn of a run, behind which the check has walked that userset, where none of the rows is the user's
+  -- what a userset's own shard read for a check is a turn of a run, after which the check has walked that userset, if none of the rows is the user's
   abbrev pub CheckTurns : Type 0
   CheckTurns = (now : Moment) (old : ShardView D) (s : ℕ) (fresh : Freshness) (x y : Userset) (u : User) (place : ℕ) (rows : List Tuple) (r : Running) (h later : CheckHolds)
       → Stands store shards left now → ((found : List Record) × left coordinator found) → ShardIsSeen store shards s now.nodes old → s ≡ shard_of shards y.object
       → IsChecker now r fresh x u h place → ReadsForCheckAt old place y u rows → Walks y rows h later → (Contains rows (holding y u) → ⊥)
       → StandsAndTurns store shards left now now.nodes r (with_call r (checking later) r.met now.machine)
 
-  -- and one with which the check ends, and says yes, where one is
+  -- and one with which the check ends, and says yes, if one is
   abbrev pub CheckYesTurns : Type 0
   CheckYesTurns = (now : Moment) (old : ShardView D) (s : ℕ) (fresh : Freshness) (x y : Userset) (u : User) (place : ℕ) (rows : List Tuple) (r : Running) (h : CheckHolds)
       → Stands store shards left now → ((found : List Record) × left coordinator found) → ShardIsSeen store shards s now.nodes old → s ≡ shard_of shards y.object

@@ -76,13 +76,13 @@ module _ {D : Type 0} (state : D → State) (honest : D → Type 0) (moment : D 
       Stands store shards (stops state honest store shards new) (with_nodes now next)
       × Restarts shards (IsHorizonIn store shards (stops state honest store shards old) now.nodes) now (shard s) (refuses e ∷ []) (with_nodes now next)
 
-  -- an opening that answers Full found a shard that was opened as often as can be
+  -- an opening that answers Full found a shard that was opened as often as possible
   abbrev pub FullShardsWereOpened : Type 0
   FullShardsWereOpened = (old : NodeName → D × D) (s : ℕ) (a b : D) → AreRevived old (shard s) a b
       → ((rs : List Record) × (found (state a).seen (state b).seen ≡ Some rs) × IsShardImage (shard_node store shards s) rs × ((shard_state rs).epoch ≡ greatest_number))
       → (was : List Record) × stops state honest store shards old (shard s) was × (epoch_of (shard s) was ≡ greatest_number)
 
-  -- where a device fails in it, a device of the node failed
+  -- if a device fails in it, a device of the node failed
   abbrev pub FailedShardsHaveCause : Type 0
   FailedShardsHaveCause = (old new : NodeName → D × D) (s : ℕ) (a b : D) → AreRevived old (shard s) a b
       → HasFailed (state a) (state (new (shard s)).0) ⊎ HasFailed (state b) (state (new (shard s)).1)

@@ -40,12 +40,12 @@ pub record ShardIsSeen {D : Type 0} (store shards s : ℕ) (nodes : Nodes) (v : 
   pub me : v.me ≡ shard_node store shards s
   pub at : nodes.at (shard s) ≡ up v.durable v.staged
 
--- a shard's state in place of the one that it had
+-- a shard's state instead of the one that it had
 abbrev pub at_shard : ℕ → NodeState → (NodeName → NodeState) → NodeName → NodeState
 at_shard s state at coordinator = at coordinator
 at_shard s state at (shard t) = if t == s then state else at (shard t)
 
--- the nodes behind a call of shard s, which is up
+-- the nodes after a call of shard s, which is up
 abbrev pub behind_shard : {D : Type 0} → ℕ → Nodes → ShardView D → Nodes
 behind_shard s nodes v = record nodes { at = at_shard s (up v.durable v.staged) nodes.at }
 
@@ -53,7 +53,7 @@ behind_shard s nodes v = record nodes { at = at_shard s (up v.durable v.staged) 
 abbrev pub held_ticket : ℕ → TicketValue → HeldTicket
 held_ticket s t = record { shard = s; id = t.id; epoch = t.epoch }
 
--- with what a shard that is up refuses to prepare
+-- a refusal of a prepare by a shard that is up
 abbrev pub IsOfPrepare : Refusal → Type 0
 IsOfPrepare e = IsOneOf e (Collected ∷ Busy ∷ Precondition ∷ Full ∷ NoMemory ∷ [])
 
@@ -62,9 +62,9 @@ pub record IsHolder (now : Moment) (r : Running) (h : WriteHolds) (w : Entry) : 
   pub flow : IsFlowOf now r w
   pub holds : r.holds ≡ writing h
 
--- The store has this id and so many shards, and a stop may leave this of each node, but for what is staged.
+-- The store has this id and this many shards, and a stop may leave this of each node, except for what is staged.
 module _ (store shards : ℕ) (left : NodeName → List Record → Type 0) where
-  -- the store stands behind a turn in which a call left these nodes and its flow so
+  -- the store stands after a turn in which a call left these nodes and its flow so
   abbrev pub StandsAndTurns : Moment → Nodes → Running → Running → Type 0
   StandsAndTurns now next r later =
       let ran = going_on now next now.machine later in
@@ -72,7 +72,7 @@ module _ (store shards : ℕ) (left : NodeName → List Record → Type 0) where
 
 -- And this is what a device holds, and whether it is honest.
 module _ (store shards : ℕ) (left : NodeName → List Record → Type 0) {D : Type 0} (state : D → State) (honest : D → Type 0) where
-  -- a prepare, by the contract of the call alone, is a turn of a run, behind which the flow holds a ticket more
+  -- a prepare, by the contract of the call alone, is a turn of a run, after which the flow holds one more ticket
   abbrev pub PrepareTurns : Type 0
   PrepareTurns = (now : Moment) (old new : ShardView D) (s : ℕ) (w : Entry) (t : TicketValue) (r : Running) (h : WriteHolds)
       → Stands store shards left now → ShardIsSeen store shards s now.nodes old → IsHolder now r h w → takes_part shards s w ≡ true → PreparesAt state honest old w t new
@@ -80,14 +80,14 @@ module _ (store shards : ℕ) (left : NodeName → List Record → Type 0) {D : 
       ShardIsSeen store shards s next new
       × StandsAndTurns store shards left now next r (with_call r (writing (record h { tickets = h.tickets ++ held_ticket s t ∷ [] })) r.met now.machine)
 
-  -- and so is one that is refused: the write, which is on its way and holds nothing of this shard, goes out with the refusal, which has its cause
+  -- so is one that is refused: the write, which is on its way and holds nothing of this shard, goes out with the refusal, which has its cause
   abbrev pub RefusedPrepareTurns : Type 0
   RefusedPrepareTurns = (now : Moment) (old : ShardView D) (s : ℕ) (w : Entry) (e : Refusal) (r : Running) (h : WriteHolds)
       → Stands store shards left now → ShardIsSeen store shards s now.nodes old → IsHolder now r h w → takes_part shards s w ≡ true → IsIntent w
       → h.way ≡ onward → (HoldsOf h s → ⊥) → PrepareRefused old w e → IsOfPrepare e
       → StandsAndTurns store shards left now now.nodes r (with_call r (writing (record h { way = outward (Some e) })) (Some e) now.machine)
 
-  -- a vote for a ticket that the flow holds is a turn of a run, behind which it holds the vote in place of the ticket
+  -- a vote for a ticket that the flow holds is a turn of a run, after which it holds the vote instead of the ticket
   abbrev pub VoteTurns : Type 0
   VoteTurns = (now : Moment) (old : ShardView D) (s : ℕ) (w : Entry) (t : TicketValue) (v : VoteValue) (r : Running) (h : WriteHolds) (rest : List HeldTicket)
       → Stands store shards left now → ShardIsSeen store shards s now.nodes old → IsHolder now r h w
@@ -95,14 +95,14 @@ module _ (store shards : ℕ) (left : NodeName → List Record → Type 0) {D : 
       → ((x : HeldTicket) → Contains h.tickets x → (x ≡ held_ticket s t) ⊎ Contains rest x) → IsUp state honest old → VotesAt state old t v
       → StandsAndTurns store shards left now now.nodes r (with_call r (writing (record h { tickets = rest; votes = h.votes ++ v ∷ [] })) r.met now.machine)
 
-  -- and so is one that is refused: the ticket is spent, and the write goes out with Aborted, which has its cause
+  -- so is one that is refused: the ticket is spent, and the write goes out with Aborted, which has its cause
   abbrev pub RefusedVoteTurns : Type 0
   RefusedVoteTurns = (now : Moment) (old : ShardView D) (s : ℕ) (w : Entry) (t : TicketValue) (intent : IntentValue) (r : Running) (h : WriteHolds) (rest : List HeldTicket)
       → Stands store shards left now → ShardIsSeen store shards s now.nodes old → IsHolder now r h w → h.intent ≡ Some intent
       → Contains h.tickets (held_ticket s t) → ((x : HeldTicket) → Contains rest x → Contains h.tickets x) → find_in_doubt t.id (memory old).in_doubt ≡ None
       → StandsAndTurns store shards left now now.nodes r (with_call r (writing (record h { way = outward (Some Aborted); tickets = rest })) (Some Aborted) now.machine)
 
-  -- the learning of decisions that a flow holds is a turn of a run, behind which it holds these or others, or none
+  -- the learning of decisions that a flow holds is a turn of a run, after which it holds these or others, or none
   abbrev pub LearnTurns : Type 0
   LearnTurns = (now : Moment) (old new : ShardView D) (s : ℕ) (b : BatchValue) (all : Bool) (kept : Option BatchValue) (r : Running)
       → Stands store shards left now → ShardIsSeen store shards s now.nodes old → Contains now.running r → batch_of r.holds ≡ Some b → LearnsAt state honest old b all new
@@ -118,7 +118,7 @@ module _ (store shards : ℕ) (left : NodeName → List Record → Type 0) {D : 
       → LearnRefused old b e → IsOneOf e (NoMemory ∷ Full ∷ Damaged ∷ [])
       → HasItsCause shards (shard s) now behind r e × (e ≢ Unsure)
 
-  -- a learning that holds right heads is done where the shard learns up to their kept place
+  -- a learning that holds right heads is done if the shard learns up to their kept place
   abbrev pub LearnAnswers : Type 0
   LearnAnswers = (now : Moment) (old new : ShardView D) (s : ℕ) (b : BatchValue) (heads : HeadsValue) (r : Running) (h : HeadsHeld)
       → Stands store shards left now → ShardIsSeen store shards s now.nodes old → Contains now.running r → r.asked ≡ to_learn s → r.holds ≡ learning h → h.heads ≡ Some heads
@@ -126,7 +126,7 @@ module _ (store shards : ℕ) (left : NodeName → List Record → Type 0) {D : 
       → let next = behind_shard s now.nodes new in let ran = ending now next now.machine r [] in
       ShardIsSeen store shards s next new × Stands store shards left ran × Turns shards (IsHorizonIn store shards left now.nodes) now r (answered done ∷ []) ran
 
-  -- a drop by a verdict that a write flow holds is a turn of a run, behind which it may have spent a ticket, a vote or the verdict
+  -- a drop by a verdict that a write flow holds is a turn of a run, after which it may have spent a ticket, a vote or the verdict
   abbrev pub DropTurns : Type 0
   DropTurns = (now : Moment) (old new : ShardView D) (s : ℕ) (id : WriteId) (changes : List Change) (conditions : List Condition) (r : Running) (h k : WriteHolds)
       → Stands store shards left now → ShardIsSeen store shards s now.nodes old → Contains now.running r → r.asked ≡ to_write changes conditions → r.holds ≡ writing h
@@ -134,7 +134,7 @@ module _ (store shards : ℕ) (left : NodeName → List Record → Type 0) {D : 
       → let next = behind_shard s now.nodes new in
       ShardIsSeen store shards s next new × StandsAndTurns store shards left now next r (with_call r (writing k) r.met now.machine)
 
-  -- and so is one by a verdict that a resolution holds
+  -- so is one by a verdict that a resolution holds
   abbrev pub ResolvedDropTurns : Type 0
   ResolvedDropTurns = (now : Moment) (old new : ShardView D) (s t : ℕ) (id : WriteId) (r : Running) (h : ResolveHolds)
       → Stands store shards left now → ShardIsSeen store shards s now.nodes old → Contains now.running r → r.asked ≡ to_resolve t → r.holds ≡ resolving h
@@ -142,12 +142,12 @@ module _ (store shards : ℕ) (left : NodeName → List Record → Type 0) {D : 
       → let next = behind_shard s now.nodes new in
       ShardIsSeen store shards s next new × StandsAndTurns store shards left now next r (with_call r (resolving (record h { verdict = None })) r.met now.machine)
 
-  -- each id that a shard tells to be in doubt was given out
+  -- each id that a shard reports as in doubt was given out
   abbrev pub ToldDoubtsAreGiven : Type 0
   ToldDoubtsAreGiven = (now : Moment) (old : ShardView D) (s : ℕ) (told : List WriteId) (id : WriteId) → Stands store shards left now → ShardIsSeen store shards s now.nodes old
       → DoubtsAt old told → Contains told id → WasGiven shards left now.nodes id
 
-  -- a read of the next shard's rows, for the tupleset that a flow reads, is a turn of a run, behind which it holds these too; a stop leaves some records
+  -- a read of the next shard's rows, for the tupleset that a flow reads, is a turn of a run, after which it holds these too; a stop leaves some records
   -- of the coordinator
   abbrev pub ReadTurns : Type 0
   ReadTurns = (now : Moment) (old : ShardView D) (fresh : Freshness) (sets : List Tupleset) (place : ℕ) (q : Tupleset) (rows merged : List Tuple) (r : Running) (h : ReadHolds)
@@ -155,7 +155,7 @@ module _ (store shards : ℕ) (left : NodeName → List Record → Type 0) {D : 
       → Contains now.running r → r.asked ≡ to_read fresh sets → r.holds ≡ reading h → IsReading sets h place q → ReadsAt old place q rows → IsMerged h.rows rows merged
       → StandsAndTurns store shards left now now.nodes r (with_call r (reading (record h { below = h.below + 1; rows = merged })) r.met now.machine)
 
-  -- and so is a read of the one shard that has them all
+  -- so is a read of the one shard that has them all
   abbrev pub ReadOneTurns : Type 0
   ReadOneTurns = (now : Moment) (old : ShardView D) (s : ℕ) (fresh : Freshness) (sets : List Tupleset) (place : ℕ) (q : Tupleset) (rows : List Tuple) (r : Running) (h : ReadHolds)
       → Stands store shards left now → ((found : List Record) × left coordinator found) → ShardIsSeen store shards s now.nodes old
@@ -168,7 +168,7 @@ module _ (store shards : ℕ) (left : NodeName → List Record → Type 0) {D : 
       → Stands store shards left now → ShardIsSeen store shards s now.nodes old → Contains now.running r → r.asked ≡ to_read fresh sets → r.holds ≡ reading h → h.place ≡ Some place
       → ((e ≡ Collected) × (place < (memory old).horizon)) ⊎ (e ≡ NoMemory) → HasItsCause shards (shard s) now behind r e × (e ≢ Unsure)
 
-  -- what a shard has settled, at or above the place of a raise, is a turn of a run, behind which the raise holds it too
+  -- what a shard has settled, at or above the place of a raise, is a turn of a run, after which the raise holds it too
   abbrev pub SettleTurns : Type 0
   SettleTurns = (now : Moment) (old : ShardView D) (s x : ℕ) (v : SettledValue) (r : Running) (h : RaiseHolds)
       → Stands store shards left now → ShardIsSeen store shards s now.nodes old → Contains now.running r → r.asked ≡ to_raise x → r.holds ≡ raising h → x ≤ v.place
@@ -183,7 +183,7 @@ module _ (store shards : ℕ) (left : NodeName → List Record → Type 0) {D : 
       → let next = behind_shard s now.nodes new in let ran = ending now next now.machine r [] in
       ShardIsSeen store shards s next new × Stands store shards left ran × Turns shards (IsHorizonIn store shards left now.nodes) now r (answered done ∷ []) ran
 
-  -- and where the shard's batch has no room for it, that is its cause
+  -- and if the shard's batch has no room for it, that is its cause
   abbrev pub RefusedCollectsHaveCause : Type 0
   RefusedCollectsHaveCause = (now behind : Moment) (old : ShardView D) (s : ℕ) (heads : HeadsValue) (r : Running)
       → Stands store shards left now → ShardIsSeen store shards s now.nodes old → r.asked ≡ to_collect s → IsUp state honest old

@@ -11,7 +11,7 @@ use Rattle.turns.specs.Promises.{Ran, RunsAll, StopsBetween}
 use Rattle.turns.specs.Reopens.{Reopened}
 use Rattle.turns.specs.Runs.{Event, IsRun, Step}
 
--- the machine after a stop within a step: a beginning of the log from before or from behind, with all that was kept, and with the horizon from before
+-- the machine after a stop within a step: a beginning of the log from before or from after, with all that was kept, and with the horizon from before
 pub record IsStopOf (before after m : Machine) : Type 0 where
   pub kept : before.kept ≤ m.kept
   pub log : (m.log ≡ take (length m.log) before.log) ⊎ (m.log ≡ take (length m.log) after.log)
@@ -54,7 +54,7 @@ module _ {D : Type 0} (state : D → State) (honest : D → Type 0) (moment : D 
       → (ran : Ran state honest moment left_since store shards old now number step events new) → IsStopped old.devices new.devices stopped
       → (m : Machine) × IsStopOf now.machine ran.after.machine m × RestsOver state honest store shards stopped m × All (IsToldOver state honest store shards stopped m) now.told
 
-  -- and so does what a stop at any moment of an opening leaves
+  -- so does what a stop at any moment of an opening leaves
   abbrev pub StoppedOpeningsRest : Type 0
   StoppedOpeningsRest = (old stopped : NodeName → D × D) (new : Store D) (m : Machine) (told : List WriteId) → RestsOver state honest store shards old m
       → All (IsToldOver state honest store shards old m) told → (reopened : Reopened state honest moment left_since store shards old m told new)

@@ -14,7 +14,7 @@ pub fn answers_agree<W: Leavings>()
     ensures refused { (store shards : ℕ) → RefusedWritesEnd store shards W.left W.left_after }
 {}
 
-/// And so does a care of the nodes: a shard's learning, a resolution, a collection, and a raise of the horizon with the flush behind it.
+/// So does a care of the nodes: a shard's learning, a resolution, a collection, and a raise of the horizon with the flush after it.
 pub fn cares_agree<W: Leavings>()
     ensures learning { (store shards : ℕ) → LearnsAnswer store shards W.left W.left_after }
     ensures resolving { (store shards : ℕ) → ResolvesAnswer store shards W.left W.left_after }

@@ -5,8 +5,8 @@ ghost use Rattle.turns.specs.CoordinatorSeamLaws.{AwayIsForgotten, BatchAnswers,
 use device::Device;
 use laws::Leavings;
 
-/// The heads that the coordinator answers are right, and give an answer its place; the flow that asked holds them in a turn of a run; and where it is
-/// refused by them, with `Future` or `Collected`, that has its cause.
+/// The heads that the coordinator answers are right, and give an answer its place; the flow that asked holds them in a turn of a run; and if they
+/// refuse it, with `Future` or `Collected`, that has its cause.
 pub fn heads_take_their_turn<W: Leavings, D: Device>()
     ensures answer { (store shards : ℕ) → HeadsAnswer store shards W.left D }
     ensures turn { (store shards : ℕ) → HeadsTurn store shards W.left D }
@@ -14,14 +14,14 @@ pub fn heads_take_their_turn<W: Leavings, D: Device>()
     ensures places { PlacesAreFound }
 {}
 
-/// The decisions that the coordinator answers are those of the log behind a place; the flow holds them in a turn of a run.
+/// The decisions that the coordinator answers are those of the log after a place; the flow holds them in a turn of a run.
 pub fn batch_takes_its_turn<W: Leavings, D: Device>()
     ensures answer { (store shards : ℕ) → BatchAnswers store shards W.left D }
     ensures turn { (store shards : ℕ) → BatchTurns store shards W.left D }
     ensures cause { (store shards : ℕ) → BatchHasCause store shards W.left D }
 {}
 
-/// Each refusal of `decide` has its cause, beside `Down`.
+/// Each refusal of `decide` other than `Down` has its cause.
 pub fn decide_has_cause<W: Leavings, D: Device>()
     ensures { (store shards : ℕ) → DecideHasCause store shards W.left D }
 {}
@@ -35,8 +35,8 @@ pub fn inquire_takes_its_turn<W: Leavings, D: Device>()
     ensures undecided { (store shards : ℕ) → UndecidedAreNotFound store shards W.left D }
 {}
 
-/// A write whose decision is kept ends with its place in a turn of a run; with `Unsure` where the coordinator failed or was opened since; and it goes on
-/// with what it holds where the decision is staged still.
+/// A write whose decision is kept ends with its place in a turn of a run; with `Unsure` if the coordinator failed or was opened since; and it goes on
+/// with what it holds if the decision is still staged.
 pub fn outcome_takes_its_turn<W: Leavings, D: Device>()
     ensures kept { (store shards : ℕ) → KeptAnswers store shards W.left D }
     ensures later { (store shards : ℕ) → StillTurns store shards W.left }
@@ -45,7 +45,7 @@ pub fn outcome_takes_its_turn<W: Leavings, D: Device>()
     ensures away { AwayIsForgotten }
 {}
 
-/// A raise that the coordinator takes is a turn of a run, behind which its flow holds that the horizon is staged; and each refusal of one has its cause.
+/// A raise that the coordinator takes is a turn of a run, after which its flow holds that the horizon is staged; and each refusal of one has its cause.
 pub fn raise_takes_its_turn<W: Leavings, D: Device>()
     ensures turn { (store shards : ℕ) → RaisesTurn store shards W.left D }
     ensures cause { (store shards : ℕ) → RaiseHasCause store shards W.left D }

@@ -4,17 +4,17 @@ ghost use Rattle.turns.specs.QuietTurns.{AwayNodesHaveCause, QuietCallsAnswer, Q
 
 use laws::Leavings;
 
-/// A quiet call, behind which its flow holds what is right, is a turn of a run.
+/// A quiet call, after which its flow holds what is right, is a turn of a run.
 pub fn quiet_calls_take_their_turn<W: Leavings>()
     ensures { (store shards : ℕ) → QuietCallsTurn store shards W.left W.left_after }
 {}
 
-/// It is so where the flow holds what it held, but for decisions on their way.
+/// So is one whose flow holds what it held, except for decisions on their way.
 pub fn quiet_calls_keep<W: Leavings>()
     ensures { (store shards : ℕ) → QuietCallsKeep store shards W.left W.left_after }
 {}
 
-/// And so is one that its flow ends with, and an answer that agrees.
+/// So is one with which its flow ends, with an answer that agrees.
 pub fn quiet_calls_answer<W: Leavings>()
     ensures { (store shards : ℕ) → QuietCallsAnswer store shards W.left W.left_after }
 {}
@@ -44,7 +44,7 @@ pub fn writes_spend_what_they_hold<W: Leavings>()
     ensures { (store shards : ℕ) → WritesSpend store shards W.left W.left_after }
 {}
 
-/// What a node answers that is down, or whose opening was refused, has its cause.
+/// What a node that is down, or whose opening was refused, answers has its cause.
 pub fn away_nodes_have_cause<W: Leavings>()
     ensures { (store shards : ℕ) → AwayNodesHaveCause store shards W.left W.left_after }
 {}

@@ -10,7 +10,7 @@ pub fn decide_takes_its_turn<W: Leavings, D: Device>()
     ensures { (store shards : ℕ) → DecideTurns store shards W.left D }
 {}
 
-/// And so is a write that is begun.
+/// So is a write that is begun.
 pub fn begin_takes_its_turn<W: Leavings, D: Device>()
     ensures { (store shards : ℕ) → BeginTurns store shards W.left D }
 {}
@@ -20,7 +20,7 @@ pub fn begin_has_cause<W: Leavings, D: Device>()
     ensures { (store shards : ℕ) → BeginHasCause store shards W.left D }
 {}
 
-/// And so is a write that is aborted, whether its flow was cancelled or not.
+/// So is a write that is aborted, whether its flow was cancelled or not.
 pub fn abort_takes_its_turn<W: Leavings, D: Device>()
     ensures { (store shards : ℕ) → AbortTurns store shards W.left D }
 {}

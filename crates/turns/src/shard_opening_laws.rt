@@ -5,8 +5,8 @@ ghost use Rattle.turns.specs.ShardOpeningLaws.{FailedShardFlushesAreQuiet, Faile
 
 use device::Device;
 
-/// A shard's opening that answers Ok, by its contract alone, is a step of a run, and the shard comes up; and so is one that is refused. One that answers `Full` was opened as often as can
-/// be, one in which a device failed has its cause, and none answers `Damaged` over the devices of a store at rest.
+/// A shard's opening that answers Ok, by its contract alone, is a step of a run, and the shard comes up; and so is one that is refused. One that answers `Full` was opened as often as
+/// possible, one in which a device failed has its cause, and none answers `Damaged` over the devices of a store at rest.
 pub fn shard_opening_takes_its_step<D: Device>()
     ensures ok { (store shards : ℕ) → ShardOpeningsStep D.state D.honest D.moment D.left_since store shards }
     ensures refused { (store shards : ℕ) → RefusedOpeningsStep D.state D.honest D.moment D.left_since store shards }

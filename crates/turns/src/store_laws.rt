@@ -22,7 +22,7 @@ pub fn stopped_steps_rest<D: Device>()
     ensures { (store shards : ℕ) → StoppedStepsRest D.state D.honest D.moment D.left_since store shards }
 {}
 
-/// And so does what a stop at any moment of an opening leaves.
+/// So does what a stop at any moment of an opening leaves.
 pub fn stopped_openings_rest<D: Device>()
     ensures { (store shards : ℕ) → StoppedOpeningsRest D.state D.honest D.moment D.left_since store shards }
 {}

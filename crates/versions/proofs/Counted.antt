@@ -1,5 +1,5 @@
 -- How many versions are looked at.
-use Rattle.std.proofs.Common.{◌≡◌, ◌≤◌, ℕ, suc, ◌+◌, Bool, true, false, ◌&&◌, cond, List, [], ◌∷◌, length, filter, inl, inr, refl, sym, ap, subst, ◌∙◌, arith}
+use Rattle.std.proofs.Common.{◌≡◌, ◌≤◌, ℕ, suc, ◌+◌, Bool, true, false, ◌&&◌, cond, List, [], ◌∷◌, ◌++◌, length, filter, inl, inr, refl, sym, ap, subst, ◌∙◌, arith}
 use Rattle.std.specs.Global.{Vec}
 use Rattle.std.specs.List.{AllByRecursion}
 use Rattle.std.specs.List.Sorted.{IsStrictlySortedBy}
@@ -8,6 +8,7 @@ use Rattle.std.specs.declared.cmp.Ordering.TheVariants.{Less}
 use Rattle.std.proofs.lemmas.Bool.{cases_Bool}
 use Rattle.std.proofs.lemmas.List.{length-append, length-map}
 use Rattle.std.proofs.lemmas.List.Elements.{filter-append}
+use Rattle.std.proofs.lemmas.List.Sums.{sum_by-cons, sum_by_push}
 use Rattle.tuples.specs.declared.tuple.Tuple.{Tuple}
 use Rattle.tuples.specs.declared.version.Version.{Version}
 use Rattle.tuples.specs.Changes.{tuple_of}
@@ -15,7 +16,9 @@ use Rattle.tuples.specs.Order.{tuple_eq}
 use Rattle.tuples.proofs.Ordered.{tuple_eq_symm}
 use Rattle.tuples.proofs.Same.{tuple_same}
 use Rattle.versions.specs.Alike.{of_tuple}
-use Rattle.versions.specs.Index.{by_user_cmp, count_of}
+use Rattle.tuples.specs.ByUser.{by_user_cmp}
+use Rattle.versions.specs.Budget.{weight, weights}
+use Rattle.versions.specs.Index.{count_of}
 use Rattle.versions.specs.Rows.{listed, version_of, versions_of}
 use Rattle.versions.specs.declared.history.Row.{Row}
 use Rattle.versions.proofs.Histories.{tuple_of_change}
@@ -179,3 +182,21 @@ sum_most q vs us rest steps old sorted within = let few = sum_within q us vs sor
 
 pub rows_seen : {rows : List Row} (steps old : ℕ) (own : List Row) → own ≡ rows → steps ≡ old + length rows → steps ≡ old + length own
 rows_seen steps old own same more = more ∙ ap (λ (l : List Row). old + length l) (sym same)
+
+-- ---- what copies count for
+
+pub counted_none : (items : List Tuple) (b : ℕ) → items ≡ [] → b + weights items ≡ b
+counted_none items b none =
+    let zero : weights items ≡ 0 = ap (λ (l : List Tuple). weights l) none in
+    omega (arith, zero)
+
+-- one tuple more, of what was left
+pub counted_more : (items new : List Tuple) (t : Tuple) (before left all : ℕ) → new ≡ items ++ t ∷ [] → left + weight t ≡ before → before + weights items ≡ all → left + weights new ≡ all
+counted_more items new t before left all grown took was =
+    let sum : weights new ≡ weights items + weight t = ap (λ (l : List Tuple). weights l) grown ∙ sum_by_push weight items t in
+    omega (arith, sum, took, was)
+
+pub counted_first : (items new : List Tuple) (t : Tuple) (before left : ℕ) → new ≡ t ∷ items → left + weight t ≡ before → left + weights new ≡ before + weights items
+counted_first items new t before left grown took =
+    let sum : weights new ≡ weight t + weights items = ap (λ (l : List Tuple). weights l) grown ∙ sum_by-cons weight t items in
+    omega (arith, sum, took)

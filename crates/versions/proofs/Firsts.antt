@@ -21,7 +21,8 @@ use Rattle.tuples.specs.Walking.{is_set, meets_check}
 use Rattle.tuples.specs.Texts.{IsUser, IsUserset}
 use Rattle.tuples.proofs.Ordered.{object_total, tuple_total, user_total}
 use Rattle.tuples.proofs.Same.{name_same, object_same, tuple_same, user_same}
-use Rattle.versions.specs.Index.{IsFirstOf, by_user_cmp}
+use Rattle.versions.specs.Index.{IsFirstOf}
+use Rattle.tuples.specs.ByUser.{by_user_cmp}
 use Rattle.versions.specs.Rows.{IsFirst, first_relation, is_one_of, is_set_of, lowest_userset}
 
 -- ---- orders

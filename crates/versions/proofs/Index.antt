@@ -1,5 +1,5 @@
 -- An index by user beside its table.
-use Rattle.std.proofs.Common.{◌≡◌, ℕ, Bool, true, false, ◌&&◌, ◌||◌, cond, List, [], ◌∷◌, filter, Option, None, inl, inr, refl, sym, ap, ◌∙◌}
+use Rattle.std.proofs.Common.{◌≡◌, ℕ, Bool, true, false, not, ◌&&◌, ◌||◌, cond, List, [], ◌∷◌, filter, Option, None, inl, inr, refl, sym, ap, ◌∙◌}
 use Rattle.std.specs.Global.{Vec}
 use Rattle.std.specs.Prelude.{is_some}
 use Rattle.std.specs.List.{list_any}
@@ -13,10 +13,11 @@ use Rattle.tuples.specs.declared.tuple.Tuple.{Tuple}
 use Rattle.tuples.specs.declared.user.User.{User}
 use Rattle.tuples.specs.contracts.tuple.TupleOrd.TheImpl.{ghosts}
 use Rattle.tuples.specs.Order.{name_cmp, tuple_eq, user_cmp}
-use Rattle.tuples.proofs.Ordered.{tuple_eq_from_same, same_tie}
+use Rattle.tuples.proofs.Ordered.{tuple_eq_from_same, tuple_eq_symm, same_tie}
 use Rattle.tuples.proofs.Same.{name_same, tuple_same, user_same, both_tie}
 use Rattle.tuples.proofs.Options.{same_tests}
-use Rattle.versions.specs.Index.{HasSame, IsIndex, by_user_cmp, by_user_total, is_listed}
+use Rattle.versions.specs.Index.{Forgets, HasSame, IsIndex, is_listed}
+use Rattle.tuples.specs.ByUser.{by_user_cmp, by_user_total}
 use Rattle.versions.specs.Rows.{found}
 use Rattle.versions.specs.declared.history.Row.{Row}
 use Rattle.versions.proofs.Tables.{Entries}
@@ -70,14 +71,13 @@ index_changed k t same w us vs es fs old put entry q =
     ∙ sym (changed_entry t w es fs entry q)
 
 -- a tuple without an entry is put in and taken out again
-pub index_back : (k j t : Tuple) → k ≡ t → j ≡ t → (us vs ws : List Tuple) (es fs : Entries) → IsIndex us es → found t es ≡ None → fs ≡ es
+pub index_back : (k t : Tuple) → k ≡ t → (us vs ws : List Tuple) (es fs : Entries) → IsIndex us es → found t es ≡ None → fs ≡ es
     → ((q : Tuple) → is_listed vs q ≡ cond (is_at (by_user_cmp k) q) true (is_listed us q))
-    → ((q : Tuple) → is_listed ws q ≡ cond (is_at (by_user_cmp j) q) false (is_listed vs q))
+    → Forgets t vs ws
     → IsIndex ws fs
 unfolding IsIndex
-index_back k j t same again us vs ws es fs old none stay put back q =
-    changed j false vs ws back q
-    ∙ ap (λ (x : Tuple). cond (tuple_eq x q) false (is_listed vs q)) again
+index_back k t same us vs ws es fs old none stay put back q =
+    changed t false vs ws back q
     ∙ ap (λ (b : Bool). cond (tuple_eq t q) false b) (changed k true us vs put q ∙ ap (λ (x : Tuple). cond (tuple_eq x q) true (is_listed us q)) same)
     ∙ twice (tuple_eq t q) (is_listed us q) (λ is. old q ∙ ap (λ (x : Tuple). is_some (found x es)) (sym (tuple_same t q is)) ∙ ap (λ (o : Option (Vec Row)). is_some o) none)
     ∙ old q
@@ -124,6 +124,19 @@ index_filtered us vs es fs old is fewer t =
     narrowed : (a b : Bool) → (a ≡ true → b ≡ true) → (a && b) ≡ a
     narrowed true b h = h refl
     narrowed false b h = refl
+
+pub forgets_filtered : (t : Tuple) (us vs : List Tuple) → vs ≡ filter (λ u. not (eq_by_cmp by_user_cmp u t)) us → Forgets t us vs
+forgets_filtered t us vs is q =
+    listed_any vs q
+    ∙ ap (λ (l : List Tuple). list_any (tuple_eq q) l) is
+    ∙ any-filter_same (tuple_eq q) (λ u. not (eq_by_cmp by_user_cmp u t)) (not (eq_by_cmp by_user_cmp q t)) (λ u same. ap (λ (x : Tuple). not (eq_by_cmp by_user_cmp x t)) (sym (tuple_same q u same))) us
+    ∙ ap (λ (b : Bool). not (eq_by_cmp by_user_cmp q t) && b) (sym (listed_any us q))
+    ∙ ap (λ (b : Bool). not b && is_listed us q) (by_user_tie q t ∙ tuple_eq_symm q t ∙ sym (by_user_tie t q))
+    ∙ left_out (is_at (by_user_cmp t) q) (is_listed us q)
+  where
+    left_out : (b d : Bool) → (not b && d) ≡ cond b false d
+    left_out true d = refl
+    left_out false d = refl
 
 pub index_none : (us : List Tuple) (es : Entries) → us ≡ [] → es ≡ [] → IsIndex us es
 unfolding IsIndex

@@ -21,7 +21,8 @@ use Rattle.tuples.specs.Texts.{IsTuple}
 use Rattle.tuples.specs.Versions.{there_at}
 use Rattle.tuples.proofs.Ordered.{tuple_eq_refl, same_tie}
 use Rattle.tuples.proofs.Same.{name_same, tuple_same, user_same}
-use Rattle.versions.specs.Index.{IsFirstOf, IsIndex, by_user_cmp, is_of_user}
+use Rattle.versions.specs.Index.{IsFirstOf, IsIndex, is_of_user}
+use Rattle.tuples.specs.ByUser.{by_user_cmp}
 use Rattle.versions.specs.Rows.{IsTable, found, listed, rows_in, versions_of}
 use Rattle.versions.specs.declared.history.Row.{Row}
 use Rattle.versions.specs.declared.of_user.OfUser.{OfUser as Asked}

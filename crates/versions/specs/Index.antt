@@ -1,11 +1,9 @@
 -- An index by user: the tuples of a table, in the order of their namespaces and users.
-use Rattle.std.specs.Prelude.{ℕ, ◌≡◌, Bool, true, ◌&&◌, List, is_some, length, filter}
-use Rattle.std.specs.Cmp.{IsTotalOrder}
-use Rattle.std.proofs.lemmas.Cmp.{nat_list_cmp_total, on_total, then_total}
+use Rattle.std.specs.Prelude.{ℕ, ◌≡◌, Bool, true, false, ◌&&◌, List, is_some, length, filter, if◌then◌else◌}
+use Rattle.std.specs.BTreeMap.{is_at}
 use Rattle.std.specs.List.{list_any}
-use Rattle.std.specs.Ordering.{eq_by_cmp, is_eq, is_le, ordering_then}
+use Rattle.std.specs.Ordering.{eq_by_cmp, is_eq, is_le}
 use Rattle.std.specs.Global.{Vec}
-use Rattle.std.specs.declared.cmp.Ordering.{Ordering}
 use Rattle.std.specs.declared.cmp.Ordering.TheVariants.{Less}
 use Rattle.tuples.specs.declared.tuple.Tuple.{Tuple}
 use Rattle.tuples.specs.declared.tupleset.Tupleset.{Tupleset}
@@ -13,22 +11,19 @@ use Rattle.tuples.specs.declared.user.User.{User}
 use Rattle.tuples.specs.declared.version.Version.{Version}
 use Rattle.tuples.specs.Changes.{tuple_of}
 use Rattle.tuples.specs.Order.{name_cmp, user_cmp}
-use Rattle.tuples.proofs.Ordered.{user_total}
+use Rattle.tuples.specs.ByUser.{by_user_cmp}
 use Rattle.tuples.specs.Reads.{meets, same_name}
 use Rattle.tuples.specs.Texts.{IsTuple}
 use Rattle.versions.specs.Rows.{found}
 use Rattle.versions.specs.declared.history.Row.{Row}
 
--- by namespace, user, object id and relation
-abbrev pub by_user_cmp : Tuple → Tuple → Ordering
-by_user_cmp a b = ordering_then (name_cmp a.object.namespace b.object.namespace) (ordering_then (user_cmp a.user b.user) (ordering_then (name_cmp a.object.id b.object.id) (name_cmp a.relation b.relation)))
-
-pub by_user_total : IsTotalOrder by_user_cmp
-by_user_total = then_total (on_total (λ (t : Tuple). t.object.namespace) nat_list_cmp_total) (then_total (on_total (λ (t : Tuple). t.user) user_total) (then_total (on_total (λ (t : Tuple). t.object.id) nat_list_cmp_total) (on_total (λ (t : Tuple). t.relation) nat_list_cmp_total)))
-
 -- the tuple is one of these
 abbrev pub is_listed : List Tuple → Tuple → Bool
 is_listed us t = list_any (eq_by_cmp by_user_cmp t) us
+
+-- the tuple is in the index no more, and of all others nothing changes
+abbrev pub Forgets : Tuple → List Tuple → List Tuple → Type 0
+Forgets t us vs = (q : Tuple) → is_listed vs q ≡ (if is_at (by_user_cmp t) q then false else is_listed us q)
 
 -- the tuples of the index are those that have an entry in the table
 unfoldable pub IsIndex : List Tuple → List (Tuple × Vec Row) → Type 0

@@ -8,17 +8,16 @@ ghost use Rattle.versions.specs.Index.{IsIndex};
 ghost use Rattle.versions.specs.Rows.{IsTable, listed};
 
 use crate::PlacedChanges;
-use crate::by_user::ByUser;
 use crate::history::Row;
 use crate::table::{add, take_back};
 use std::alloc::{AllocError, Global};
 use std::collections::{BTreeMap, BTreeSet};
-use tuples::{Change, Tuple};
+use tuples::{Change, PackedByUser, Tuple};
 
 /// Adds the changes of a write at its place. Where memory is refused, nothing has changed.
 pub(crate) fn apply(
     table: &mut BTreeMap<Tuple, Vec<Row>>,
-    users: &mut BTreeSet<ByUser>,
+    users: &mut BTreeSet<PackedByUser>,
     alloc: Global,
     place: u64,
     changes: &[Change],
@@ -31,7 +30,7 @@ pub(crate) fn apply(
     ensures err { OnErr result (listed table.new.entries ≡ listed table.old.entries) }
 {
     if let Err(added) = add_changes(table, users, alloc, place, changes) {
-        take_back_changes(table, users, &changes[..added]);
+        take_back_changes(table, users, alloc, &changes[..added]);
         return Err(AllocError);
     }
     Ok(())
@@ -40,7 +39,7 @@ pub(crate) fn apply(
 // Where memory is refused, so many of the first changes were added.
 fn add_changes(
     table: &mut BTreeMap<Tuple, Vec<Row>>,
-    users: &mut BTreeSet<ByUser>,
+    users: &mut BTreeSet<PackedByUser>,
     alloc: Global,
     place: u64,
     changes: &[Change],
@@ -66,7 +65,8 @@ fn add_changes(
 
 fn take_back_changes(
     table: &mut BTreeMap<Tuple, Vec<Row>>,
-    users: &mut BTreeSet<ByUser>,
+    users: &mut BTreeSet<PackedByUser>,
+    alloc: Global,
     changes: &[Change],
 )
     requires table { IsTable table.old.entries }
@@ -78,14 +78,14 @@ fn take_back_changes(
     let mut left = changes.len();
     while left > 0 {
         left -= 1;
-        take_back(table, users, changes[left].tuple(), 1);
+        take_back(table, users, alloc, changes[left].tuple(), 1);
     }
 }
 
 /// Adds the changes of these writes, each at its place. Where memory is refused, nothing has changed.
 pub(crate) fn apply_all(
     table: &mut BTreeMap<Tuple, Vec<Row>>,
-    users: &mut BTreeSet<ByUser>,
+    users: &mut BTreeSet<PackedByUser>,
     alloc: Global,
     writes: &[PlacedChanges],
 ) -> Result<(), AllocError>
@@ -97,7 +97,7 @@ pub(crate) fn apply_all(
     ensures err { OnErr result (listed table.new.entries ≡ listed table.old.entries) }
 {
     if let Err(applied) = apply_each(table, users, alloc, writes) {
-        take_back_each(table, users, &writes[..applied]);
+        take_back_each(table, users, alloc, &writes[..applied]);
         return Err(AllocError);
     }
     Ok(())
@@ -106,7 +106,7 @@ pub(crate) fn apply_all(
 // Where memory is refused, so many of the first writes were applied.
 fn apply_each(
     table: &mut BTreeMap<Tuple, Vec<Row>>,
-    users: &mut BTreeSet<ByUser>,
+    users: &mut BTreeSet<PackedByUser>,
     alloc: Global,
     writes: &[PlacedChanges],
 ) -> Result<(), usize>
@@ -130,7 +130,8 @@ fn apply_each(
 
 fn take_back_each(
     table: &mut BTreeMap<Tuple, Vec<Row>>,
-    users: &mut BTreeSet<ByUser>,
+    users: &mut BTreeSet<PackedByUser>,
+    alloc: Global,
     writes: &[PlacedChanges],
 )
     requires table { IsTable table.old.entries }
@@ -142,6 +143,6 @@ fn take_back_each(
     let mut left = writes.len();
     while left > 0 {
         left -= 1;
-        take_back_changes(table, users, writes[left].changes);
+        take_back_changes(table, users, alloc, writes[left].changes);
     }
 }

@@ -1,16 +1,17 @@
 // What a check asks of a userset: whether it holds the user, and which usersets it holds.
-ghost use Rattle.std.specs.Prelude.{◌≡◌, ◌∷◌, false, IfOk, IfSome, if◌then◌else◌};
+ghost use Rattle.std.specs.Prelude.{◌≡◌, ◌+◌, ◌∷◌, false, IfOk, IfSome, if◌then◌else◌};
 ghost use Rattle.tuples.specs.Checking.{holding as holding_of};
 ghost use Rattle.tuples.specs.Versions.{there_at};
 ghost use Rattle.tuples.specs.Walking.{IsCheckSelection, is_set as is_userset};
+ghost use Rattle.versions.specs.Budget.{weights};
 ghost use Rattle.versions.specs.Rows.{IsTable, listed};
 
-use crate::Steps;
 use crate::asks::{is_asked, is_of};
 use crate::first::first_set_of;
 use crate::history::{Row, is_there_at};
 use crate::kept::kept_from;
-use crate::table::{copy, rows_of};
+use crate::table::rows_of;
+use crate::{Budget, Steps};
 use std::alloc::{AllocError, Global};
 use std::collections::BTreeMap;
 use std::sync::ledger::Ledger;
@@ -26,18 +27,23 @@ pub(crate) fn asked_at<L: Ledger>(
     place: u64,
     userset: &Userset,
     user: &User,
+    budget: &mut Budget,
     steps: &mut Steps<L>,
 ) -> Result<Vec<Tuple>, AllocError>
     requires { IsTable table.now.entries }
-    ensures { IfOk result (λ tuples. IsCheckSelection (there_at (listed table.now.entries) place) userset.now user.now tuples.items) }
+    ensures rows { IfOk result (λ tuples. IsCheckSelection (there_at (listed table.now.entries) place) userset.now user.now tuples.items) }
+    ensures counted { IfOk result (λ tuples. budget.new + weights tuples.items ≡ budget.old) }
 {
     if let User::Id(_) = user {
+        let before = budget.left();
         // Mostly few users stand between, and to pass these takes less than to search once more.
-        if let Some(tuples) = nearby(table, alloc, place, userset, user, steps)? {
+        if let Some(tuples) = nearby(table, alloc, place, userset, user, budget, steps)? {
             return Ok(tuples);
         }
+        // What it copied was let go.
+        *budget = Budget::of(before);
     }
-    searched(table, alloc, place, userset, user, steps)
+    searched(table, alloc, place, userset, user, budget, steps)
 }
 
 // By one search for a plain user, and from there on; none where many other plain users stand between the user and the usersets.
@@ -47,11 +53,13 @@ fn nearby<L: Ledger>(
     place: u64,
     userset: &Userset,
     user: &User,
+    budget: &mut Budget,
     steps: &mut Steps<L>,
 ) -> Result<Option<Vec<Tuple>>, AllocError>
     requires table { IsTable table.now.entries }
     requires plain { is_userset user.now ≡ false }
-    ensures { IfOk result (λ found. IfSome found (λ tuples. IsCheckSelection (there_at (listed table.now.entries) place) userset.now user.now tuples.items)) }
+    ensures rows { IfOk result (λ found. IfSome found (λ tuples. IsCheckSelection (there_at (listed table.now.entries) place) userset.now user.now tuples.items)) }
+    ensures counted { IfOk result (λ found. IfSome found (λ tuples. budget.new + weights tuples.items ≡ budget.old)) }
 {
     let first = holding(userset, user)?;
     let mut tuples = Vec::new(alloc);
@@ -62,7 +70,7 @@ fn nearby<L: Ledger>(
         }
         if is_asked(user, tuple) {
             if is_there_at(rows, place, steps) {
-                tuples.push(copy(tuple)?)?;
+                tuples.push(budget.copy(tuple)?)?;
             }
         } else {
             if passed == MOST_PASSED {
@@ -81,16 +89,18 @@ fn searched<L: Ledger>(
     place: u64,
     userset: &Userset,
     user: &User,
+    budget: &mut Budget,
     steps: &mut Steps<L>,
 ) -> Result<Vec<Tuple>, AllocError>
     requires { IsTable table.now.entries }
-    ensures { IfOk result (λ tuples. IsCheckSelection (there_at (listed table.now.entries) place) userset.now user.now tuples.items) }
+    ensures rows { IfOk result (λ tuples. IsCheckSelection (there_at (listed table.now.entries) place) userset.now user.now tuples.items) }
+    ensures counted { IfOk result (λ tuples. budget.new + weights tuples.items ≡ budget.old) }
 {
     // A plain user stands before all usersets, so other plain users are not met.
     let first = first_set_of(alloc, userset)?;
-    let sets = kept_from(table, alloc, place, userset, first, steps)?;
+    let sets = kept_from(table, alloc, place, userset, first, budget, steps)?;
     match user {
-        User::Id(_) => with_user(table, place, holding(userset, user)?, sets, steps),
+        User::Id(_) => { with_user(table, place, holding(userset, user)?, sets, budget, steps) },
         User::Set(_) => Ok(sets),
     }
 }
@@ -101,14 +111,17 @@ fn with_user<L: Ledger>(
     place: u64,
     tuple: Tuple,
     mut sets: Vec<Tuple>,
+    budget: &mut Budget,
     steps: &mut Steps<L>,
 ) -> Result<Vec<Tuple>, AllocError>
     requires { IsTable table.now.entries }
-    ensures { IfOk result (λ tuples. tuples.items ≡ (if there_at (listed table.now.entries) place tuple then tuple ∷ sets.items else sets.items)) }
+    ensures rows { IfOk result (λ tuples. tuples.items ≡ (if there_at (listed table.now.entries) place tuple then tuple ∷ sets.items else sets.items)) }
+    ensures counted { IfOk result (λ tuples. budget.new + weights tuples.items ≡ budget.old + weights sets.items) }
 {
     if !is_there_at(rows_of(table, &tuple), place, steps) {
         return Ok(sets);
     }
+    budget.take(&tuple)?;
     sets.insert(0, tuple)?;
     Ok(sets)
 }

@@ -9,7 +9,7 @@
 
 mod applying;
 mod asks;
-mod by_user;
+mod budget;
 mod checking;
 mod decided;
 mod first;
@@ -23,6 +23,7 @@ mod uncounted;
 mod versions;
 mod walk;
 
+pub use budget::Budget;
 pub use decided::PlacedChanges;
 pub use history::Row;
 pub use steps::Steps;

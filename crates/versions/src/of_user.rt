@@ -3,19 +3,19 @@ ghost use Rattle.std.specs.Prelude.{◌≡◌, ◌≤◌, ◌+◌, IfOk};
 ghost use Rattle.tuples.specs.Reads.{IsSelection};
 ghost use Rattle.tuples.specs.Versions.{there_at};
 ghost use Rattle.tuples.specs.declared.tupleset.Tupleset.TheVariants.{OfUser as of_user};
+ghost use Rattle.versions.specs.Budget.{weights};
 ghost use Rattle.versions.specs.Index.{IsIndex, count_met, is_of_user};
 ghost use Rattle.versions.specs.Rows.{IsTable, listed};
 
-use crate::Steps;
 use crate::asks::has_given;
-use crate::by_user::ByUser;
 use crate::first::first_of_user;
 use crate::history::{Row, is_there_at};
-use crate::table::{copy, rows_of};
+use crate::table::rows_of;
+use crate::{Budget, Steps};
 use std::alloc::{AllocError, Global};
 use std::collections::{BTreeMap, BTreeSet};
 use std::sync::ledger::Ledger;
-use tuples::{Namespace, Relation, Tuple, User};
+use tuples::{Namespace, PackedByUser, Relation, Tuple, User};
 
 /// Which tuples are asked for: those in a namespace that name a user, with a relation where one is given.
 #[derive(Clone, Copy)]
@@ -28,26 +28,32 @@ pub(crate) struct OfUser<'a> {
 /// Copies of those that are there at a place, ascending. Each row that is looked at is counted.
 pub(crate) fn kept_of_user<L: Ledger>(
     table: &BTreeMap<Tuple, Vec<Row>>,
-    users: &BTreeSet<ByUser>,
+    users: &BTreeSet<PackedByUser>,
     alloc: Global,
     place: u64,
     asked: OfUser,
+    budget: &mut Budget,
     steps: &mut Steps<L>,
 ) -> Result<Vec<Tuple>, AllocError>
     requires table { IsTable table.now.entries }
     requires index { IsIndex users.now.keys table.now.entries }
     ensures rows { IfOk result (λ tuples. IsSelection (there_at (listed table.now.entries) place) (of_user asked.entry.namespace.now asked.entry.user.now asked.entry.relation.now) tuples.items) }
+    ensures counted { IfOk result (λ tuples. budget.new + weights tuples.items ≡ budget.old) }
     ensures steps { steps.new ≤ steps.old + count_met (of_user asked.entry.namespace.now asked.entry.user.now asked.entry.relation.now) (listed table.now.entries) }
 {
     let first = first_of_user(alloc, asked.namespace, asked.user)?;
+    let start = PackedByUser::of(alloc, &first)?;
     let mut tuples = Vec::new(alloc);
-    for named in users.range(ByUser::new(first)..) {
-        let tuple = named.tuple();
-        if !is_of(asked.namespace, asked.user, tuple) {
+    for named in users.range(start..) {
+        let tuple = named.tuple(alloc)?;
+        if !is_of(asked.namespace, asked.user, &tuple) {
             return Ok(tuples);
         }
-        if has_given(asked.relation, tuple) && is_there_at(rows_of(table, tuple), place, steps) {
-            tuples.push(copy(tuple)?)?;
+        if has_given(asked.relation, &tuple) && is_there_at(rows_of(table, &tuple), place, steps) {
+            budget.take(&tuple)?;
+            tuples.push(tuple)?;
+        } else {
+            drop(tuple);
         }
     }
     Ok(tuples)

@@ -1,23 +1,24 @@
 // A table of tuples, each with its versions, and the index by user of its tuples.
-ghost use Rattle.std.specs.Prelude.{◌≡◌, ◌++◌, [], false, List, None, filter, is_some, length, IfOk, OnOk, OnErr};
+ghost use Rattle.std.specs.Prelude.{◌≡◌, ◌++◌, [], false, not, List, None, filter, is_some, length, IfOk, OnOk, OnErr};
+ghost use Rattle.std.specs.Ordering.{eq_by_cmp};
+ghost use Rattle.tuples.specs.ByUser.{by_user_cmp};
 ghost use Rattle.tuples.specs.Versions.{collected};
 ghost use Rattle.tuples.specs.declared.version.Version.{Version as AnyVersion};
 ghost use Rattle.versions.specs.Alike.{AreAlike, of_tuple};
-ghost use Rattle.versions.specs.Index.{HasSame, IsIndex};
+ghost use Rattle.versions.specs.Index.{Forgets, HasSame, IsIndex};
 ghost use Rattle.versions.specs.Rows.{IsTable, found, listed, rows_in, rows_left, versions_of};
 ghost use Rattle.versions.specs.declared.history.Row.{Row as AnyRow};
 
-use crate::by_user::ByUser;
 use crate::first::see_spelled;
 use crate::history::{self, Row};
 use std::alloc::{AllocError, Global};
 use std::collections::{BTreeMap, BTreeSet};
-use tuples::Tuple;
+use tuples::{PackedByUser, Tuple};
 
 /// Adds versions of a tuple. Where memory is refused, nothing has changed.
 pub(crate) fn add(
     table: &mut BTreeMap<Tuple, Vec<Row>>,
-    users: &mut BTreeSet<ByUser>,
+    users: &mut BTreeSet<PackedByUser>,
     alloc: Global,
     tuple: &Tuple,
     rows: &[Row],
@@ -38,7 +39,7 @@ pub(crate) fn add(
 
 fn insert(
     table: &mut BTreeMap<Tuple, Vec<Row>>,
-    users: &mut BTreeSet<ByUser>,
+    users: &mut BTreeSet<PackedByUser>,
     alloc: Global,
     tuple: &Tuple,
     rows: &[Row],
@@ -54,12 +55,12 @@ fn insert(
     see_spelled(tuple);
     let own = Vec::from_slice(alloc, rows)?;
     let key = copy(tuple)?;
-    users.insert(ByUser::new(copy(tuple)?))?;
+    let named = PackedByUser::of(alloc, tuple)?;
+    users.insert(named)?;
     match table.insert(key, own) {
         Ok(_) => Ok(()),
-        Err(refused) => {
-            let (key, _rows) = refused.value;
-            users.remove(&ByUser::new(key));
+        Err(_) => {
+            forget(users, alloc, tuple);
             Err(AllocError)
         }
     }
@@ -86,7 +87,8 @@ pub(crate) fn rows_of<'a>(table: &'a BTreeMap<Tuple, Vec<Row>>, tuple: &Tuple) -
 /// Takes back so many versions of a tuple, which were added last.
 pub(crate) fn take_back(
     table: &mut BTreeMap<Tuple, Vec<Row>>,
-    users: &mut BTreeSet<ByUser>,
+    users: &mut BTreeSet<PackedByUser>,
+    alloc: Global,
     tuple: &Tuple,
     count: usize,
 )
@@ -97,7 +99,7 @@ pub(crate) fn take_back(
     ensures versions { (before : List AnyVersion) (rows : List AnyRow) → length rows ≡ count → AreAlike (listed table.old.entries) (before ++ versions_of tuple.now rows) → AreAlike (listed table.new.entries) before }
 {
     shorten(table, tuple, count);
-    remove_empty(table, users, tuple);
+    remove_empty(table, users, alloc, tuple);
 }
 
 fn shorten(table: &mut BTreeMap<Tuple, Vec<Row>>, tuple: &Tuple, count: usize)
@@ -114,7 +116,12 @@ fn shorten(table: &mut BTreeMap<Tuple, Vec<Row>>, tuple: &Tuple, count: usize)
 }
 
 // A tuple without versions has no entry.
-fn remove_empty(table: &mut BTreeMap<Tuple, Vec<Row>>, users: &mut BTreeSet<ByUser>, tuple: &Tuple)
+fn remove_empty(
+    table: &mut BTreeMap<Tuple, Vec<Row>>,
+    users: &mut BTreeSet<PackedByUser>,
+    alloc: Global,
+    tuple: &Tuple,
+)
     requires table { IsTable table.old.entries }
     requires index { IsIndex users.old.keys table.old.entries }
     ensures table { IsTable table.new.entries }
@@ -124,15 +131,35 @@ fn remove_empty(table: &mut BTreeMap<Tuple, Vec<Row>>, users: &mut BTreeSet<ByUs
     if !rows_of(table, tuple).is_empty() {
         return;
     }
-    if let Some((key, _)) = table.remove_entry(tuple) {
-        users.remove(&ByUser::new(key));
+    if table.remove(tuple).is_some() {
+        forget(users, alloc, tuple);
     }
+}
+
+// Takes the tuple out of the index.
+fn forget(users: &mut BTreeSet<PackedByUser>, alloc: Global, tuple: &Tuple)
+    ensures { Forgets tuple.now users.old.keys users.new.keys }
+{
+    match PackedByUser::of(alloc, tuple) {
+        Ok(named) => {
+            users.remove(&named);
+        }
+        // Memory is refused for a long key, and to look at all keys takes none.
+        Err(_) => leave_out(users, tuple),
+    }
+}
+
+fn leave_out(users: &mut BTreeSet<PackedByUser>, tuple: &Tuple)
+    ensures { users.new.keys ≡ filter (λ t. not (eq_by_cmp by_user_cmp t tuple.now)) users.old.keys }
+{
+    users.retain(|named| !named.is(tuple));
 }
 
 /// Forgets what lies under the horizon.
 pub(crate) fn collect(
     table: &mut BTreeMap<Tuple, Vec<Row>>,
-    users: &mut BTreeSet<ByUser>,
+    users: &mut BTreeSet<PackedByUser>,
+    alloc: Global,
     horizon: u64,
 )
     requires table { IsTable table.old.entries }
@@ -144,21 +171,36 @@ pub(crate) fn collect(
     let count = table.len();
     table.retain(|_, rows| has_left(rows, horizon));
     if table.len() < count {
-        forget_gone(users, table);
+        forget_gone(users, alloc, table);
     }
 }
 
 // Leaves in the index what has an entry.
-fn forget_gone(users: &mut BTreeSet<ByUser>, table: &BTreeMap<Tuple, Vec<Row>>)
+fn forget_gone(users: &mut BTreeSet<PackedByUser>, alloc: Global, table: &BTreeMap<Tuple, Vec<Row>>)
     ensures { users.new.keys ≡ filter (λ t. is_some (found t table.now.entries)) users.old.keys }
 {
-    users.retain(|named| has_entry(table, named));
+    users.retain(|named| has_entry(table, alloc, named));
 }
 
-fn has_entry(table: &BTreeMap<Tuple, Vec<Row>>, named: &ByUser) -> bool
+fn has_entry(table: &BTreeMap<Tuple, Vec<Row>>, alloc: Global, named: &PackedByUser) -> bool
     ensures { result ≡ is_some (found named.now table.now.entries) }
 {
-    table.contains_key(named.tuple())
+    match named.tuple(alloc) {
+        Ok(tuple) => table.contains_key(&tuple),
+        // Memory is refused for a long name, and to look at all entries takes none.
+        Err(_) => is_among(table, named),
+    }
+}
+
+fn is_among(table: &BTreeMap<Tuple, Vec<Row>>, named: &PackedByUser) -> bool
+    ensures { result ≡ is_some (found named.now table.now.entries) }
+{
+    for (tuple, _rows) in table {
+        if named.is(tuple) {
+            return true;
+        }
+    }
+    false
 }
 
 // Whether versions of a tuple are left under the horizon, once the others are forgotten.

@@ -4,22 +4,22 @@ ghost use Rattle.tuples.specs.Versions.{collected, last_version, placed, there_a
 ghost use Rattle.tuples.specs.Reads.{IsSelection};
 ghost use Rattle.tuples.specs.Walking.{IsCheckSelection};
 ghost use Rattle.versions.specs.Alike.{AlikeReadsAlike, AreAlike};
+ghost use Rattle.versions.specs.Budget.{weights};
 ghost use Rattle.versions.specs.Index.{count_met};
 ghost use Rattle.versions.specs.Last.{NewestIsLast};
 ghost use Rattle.versions.specs.Placed.{all_placed};
 ghost use Rattle.versions.specs.Rows.{AreRows, listed};
 ghost use Rattle.versions.specs.Walks.{IsInOrder};
 
-use crate::by_user::ByUser;
 use crate::history::{Row, last_place};
 use crate::kept::kept_at;
 use crate::listing::list;
-use crate::{PlacedChanges, Steps, Walk, applying, table, uncounted};
+use crate::{Budget, PlacedChanges, Steps, Walk, applying, table, uncounted};
 use std::alloc::{AllocError, Global};
 use std::collections::{BTreeMap, BTreeSet};
 use std::marker::{Brand, Model};
 use std::sync::ledger::{Blank, Ledger};
-use tuples::{Change, Tuple, Tupleset, User, Userset, Version};
+use tuples::{Change, PackedByUser, Tuple, Tupleset, User, Userset, Version};
 
 /// The versions of tuples, which contracts see as a list. Of it only the order within one tuple is promised.
 ///
@@ -29,7 +29,7 @@ pub struct Versions {
     alloc: Global,
     rows: BTreeMap<Tuple, Vec<Row>>,
     // the same tuples, in the order of namespaces and users
-    users: BTreeSet<ByUser>,
+    users: BTreeSet<PackedByUser>,
 }
 
 impl Model for Versions {
@@ -84,7 +84,7 @@ impl Versions {
     pub fn collect(&mut self, horizon: u64)
         ensures { AreAlike self.new (collected horizon self.old) }
     {
-        table::collect(&mut self.rows, &mut self.users, horizon);
+        table::collect(&mut self.rows, &mut self.users, self.alloc, horizon);
     }
 
     /// Whether the tuple is there at a place.
@@ -94,11 +94,26 @@ impl Versions {
         uncounted::is_there::<Brand>(&self.rows, place, tuple, Blank::new(1))
     }
 
-    /// The tuples that are there at a place and meet the tupleset, ascending.
-    pub fn at(&self, alloc: Global, place: u64, set: &Tupleset) -> Result<Vec<Tuple>, AllocError>
-        ensures { IfOk result (λ tuples. IsSelection (there_at self.now place) set.now tuples.items) }
+    /// The tuples that are there at a place and meet the tupleset, ascending. Each is counted: what the budget has no bytes for is refused.
+    pub fn at(
+        &self,
+        alloc: Global,
+        place: u64,
+        set: &Tupleset,
+        budget: &mut Budget,
+    ) -> Result<Vec<Tuple>, AllocError>
+        ensures rows { IfOk result (λ tuples. IsSelection (there_at self.now place) set.now tuples.items) }
+        ensures counted { IfOk result (λ tuples. budget.new + weights tuples.items ≡ budget.old) }
     {
-        uncounted::kept::<Brand>(&self.rows, &self.users, alloc, place, set, Blank::new(1))
+        uncounted::kept::<Brand>(
+            &self.rows,
+            &self.users,
+            alloc,
+            place,
+            set,
+            budget,
+            Blank::new(1),
+        )
     }
 
     /// What `at` gives, with one step counted for each row that is looked at: those of the tuples that meet the tupleset, and no others.
@@ -107,25 +122,37 @@ impl Versions {
         alloc: Global,
         place: u64,
         set: &Tupleset,
+        budget: &mut Budget,
         steps: &mut Steps<L>,
     ) -> Result<Vec<Tuple>, AllocError>
         ensures rows { IfOk result (λ tuples. IsSelection (there_at self.now place) set.now tuples.items) }
+        ensures counted { IfOk result (λ tuples. budget.new + weights tuples.items ≡ budget.old) }
         ensures steps { steps.new ≤ steps.old + count_met set.now self.now }
     {
-        kept_at(&self.rows, &self.users, alloc, place, set, steps)
+        kept_at(&self.rows, &self.users, alloc, place, set, budget, steps)
     }
 
-    /// The tuples that are there at a place and that a check asks of a userset, ascending: that of the user, and those of usersets.
+    /// The tuples that are there at a place and that a check asks of a userset, ascending: that of the user, and those of usersets. Each is counted.
     pub fn asked_at(
         &self,
         alloc: Global,
         place: u64,
         userset: &Userset,
         user: &User,
+        budget: &mut Budget,
     ) -> Result<Vec<Tuple>, AllocError>
-        ensures { IfOk result (λ tuples. IsCheckSelection (there_at self.now place) userset.now user.now tuples.items) }
+        ensures rows { IfOk result (λ tuples. IsCheckSelection (there_at self.now place) userset.now user.now tuples.items) }
+        ensures counted { IfOk result (λ tuples. budget.new + weights tuples.items ≡ budget.old) }
     {
-        uncounted::asked::<Brand>(&self.rows, alloc, place, userset, user, Blank::new(1))
+        uncounted::asked::<Brand>(
+            &self.rows,
+            alloc,
+            place,
+            userset,
+            user,
+            budget,
+            Blank::new(1),
+        )
     }
 
     /// All versions, by tuple, each tuple's in the order in which they were applied. Nothing is copied.

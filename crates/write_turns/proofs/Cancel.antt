@@ -57,7 +57,7 @@ module _ {D : Type 0} (state : D → State) (honest : D → Type 0) (moment : D 
       no_restart : (n : NodeName) → cancel slot ≡ restart n → ⊥
       no_restart n is = cc
 
-  -- the flow behind the cancel, with these in its hands
+  -- the flow after the cancel, with these in its hands
   abbrev cancelled_with : WriteHolds → Running
   cancelled_with k = record r { holds = writing k; is_cancelled = true }
 

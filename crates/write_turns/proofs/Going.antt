@@ -1,4 +1,4 @@
--- A write flow behind its call: it goes on, goes out or ends, and keeps the promise of a step.
+-- A write flow after its call: it goes on, goes out or ends, and keeps the promise of a step.
 use Rattle.std.proofs.Common.{◌≡◌, ◌≢◌, inr, ◌<◌, ℕ, Bool, true, false, true≢false, List, [], ◌∷◌, Option, Some, None, Contains, refl, sym, ◌∙◌, ap, subst}
 use Rattle.write_turns.proofs.Words.{Asked, BatchValue, Calls, Change, Condition, Entry, FailsQuietly, FlowView, HasItsCause, HoldsLess, IfHeld, IntentValue, IsMade, IsQuietlyMade, IsRight, IsRightBatch, IsRightWrite, Machine, Moment, NamesHorizon, NodeName, Nodes, Ran, Record, Refusal, Refused, Running, ShowsFlow, SlotTurns, Stands, StandsOver, State, Store, Told, Turns, Unsure, WriteHolds, WriteId, WriteView, at_rest, coordinator, ending, flow_at, going_on, id_of, outward, own_write, refuses, shard, shown, shown_until, stops, takes_part, to_write, told_end, told_of, told_unless, view_ended, with_call, writing}
 use Rattle.commit_flow.specs.Answering.{end_of}
@@ -51,12 +51,12 @@ module _ {D : Type 0} (state : D → State) (honest : D → Type 0) (moment : D 
   abbrev left_after : NodeName → List Record → Type 0
   left_after = stops state honest store shards new.devices
 
-  -- the promise of the turn behind which the flow is seen so
+  -- the promise of the turn after which the flow is seen so
   abbrev pub Promises : WriteView → Type 0
   Promises later = SlotTurns slot (shown v is_cancelled) (shown_until later.ended later is_cancelled) old new
       → Ran state honest moment left_since store shards old now number (turn slot) (events_of number (told_of is_cancelled later.ended)) new
 
-  -- where no device has changed, a stop leaves what it left before
+  -- if no device has changed, a stop leaves what it left before
   pub moved : new.devices ≡ old.devices → (at : Moment) → Stands store shards left_before at → Stands store shards left_after at
   moved same at stands = subst (λ (f : NodeName → D × D). Stands store shards (stops state honest store shards f) at) (sym same) stands
 
@@ -135,7 +135,7 @@ module _ {D : Type 0} (state : D → State) (honest : D → Type 0) (moment : D 
     ends next m end told made is law slots = subst (λ (t : List Told). Ran state honest moment left_since store shards old now number (turn slot) (events_of number t) new) is
         (ran_ending state honest moment left_since store shards old new now standing number slot (shown v is_cancelled) None slots r is_flow.there next m [] told made refl law.0 law.1)
 
-    -- behind a quiet call
+    -- after a quiet call
     module _ (next : Nodes) (m : Machine) (quiet : IsQuietlyMade state honest moment left_since store shards old new now standing next m) where
       -- the decisions that it held on their way are still right
       pub batch_stays : IfHeld v.holds.batch (IsRightBatch m)
@@ -181,7 +181,7 @@ module _ {D : Type 0} (state : D → State) (honest : D → Type 0) (moment : D 
       ends_quietly end gone = ends next m end [] quiet.1 (ap (λ (b : Bool). told_end b end) (sym gone ∙ cancelled_is))
           (quiet_calls_end store shards left_before left_after now next m r quiet.0 is_flow.running gone)
 
-      -- it ends as a law says, or with nothing where it was cancelled
+      -- it ends as a law says, or with nothing if it was cancelled
       pub ends_as : (end : WriteEnd) → (r.is_cancelled ≡ false
           → Stands store shards left_after (ending now next m r []) × Turns shards (NamesHorizon state honest store shards old now) now r (told_end false end) (ending now next m r []))
           → Promises (view_ended end)
@@ -198,7 +198,7 @@ module _ {D : Type 0} (state : D → State) (honest : D → Type 0) (moment : D 
       pub ends_out : (met : Option Refusal) → v.holds.way ≡ outward met → Promises (view_ended (end_of v.holds.way))
       ends_out met way = subst (λ w. Promises (view_ended (end_of w))) (sym way) (by_cancel r.is_cancelled refl met way)
 
-    -- a call that failed, or found its node away, takes a write out that is not decided
+    -- a call that failed, or found its node away, takes out a write that is not decided
     pub fails_out : (n : NodeName) (e : Refusal) (k : WriteHolds) (id : WriteId) → FailsQuietly state honest moment left_since store shards old new now standing n e → Calls shards r.asked r.holds n
         → v.holds.id ≡ Some id → v.holds.decided ≡ None → HoldsLess v.holds k → k.way ≡ outward (Some e) → Promises (at_rest k)
     fails_out n e k id failed calls has_id none less way =

@@ -98,7 +98,7 @@ module _ {D : Type 0} (state : D → State) (honest : D → Type 0) (moment : D 
         tells : (back ≡ b) × LearnComes state honest moment left_since counts_now only_now store shards old new now standing s b (Err e)
         tells = learn_told state honest moment left_since counts_now only_now store shards old new now standing s was is b back (Err e) called so
 
-        -- what it comes to where the write goes out
+        -- what it comes to if the write goes out
         out : (e ≢ Full) ⊎ (gives.call.awaited ≡ learning true) → Goal later
         out why =
             let then = subst (λ p. ProgressGives mid gives.call.held.shard p later) (gives.gives.1 why) gives.then_gives in

@@ -48,7 +48,7 @@ module _ {D : Type 0} (state : D → State) (honest : D → Type 0) (moment : D 
   undecided : r.decided ≡ None
   undecided = ((right state honest moment left_since store shards old new now standing number slot is_cancelled v r flow).out out.0 out.1).0
 
-  -- behind a quiet call it ends
+  -- after a quiet call it ends
   quiet_end : (next : Nodes) (m : Machine) → Made next m → later ≡ view_ended (end_of v.holds.way) → Goal later
   quiet_end next m quiet is = subst Goal (sym is) (ends_out state honest moment left_since store shards old new now standing number slot is_cancelled v r flow next m quiet out.0 out.1)
 
@@ -168,7 +168,7 @@ module _ {D : Type 0} (state : D → State) (honest : D → Type 0) (moment : D 
     abort_reply was is (from_coordinator (told.Abort reply)) called so fits gives = abort_by was is reply called so gives
     abort_reply was is reply called so fits gives = absurd fits
 
-  -- the inquiry, where the intent is spent
+  -- the inquiry, if the intent is spent
   module _ (id : WriteId) (has_id : v.holds.id ≡ Some id) where
     abbrev asked_inquire : WriteView
     asked_inquire = record v { awaited = Some waits.inquire }
@@ -249,7 +249,7 @@ module _ {D : Type 0} (state : D → State) (honest : D → Type 0) (moment : D 
     own_of None is = let both : None ≡ Some verdict.id = sym ((right state honest moment left_since store shards old new now standing number slot is_cancelled v r flow).nothing is).verdict ∙ has in absurd cc
     own_of (Some id) is = (id, is)
 
-    -- behind a quiet call the write is dropped there
+    -- after a quiet call the write is dropped there
     pub dropped : (next : Nodes) (m : Machine) → Made next m → (back : VerdictValue) → back ≡ verdict → GoesToDrop asked_drop back.id later → Goal later
     dropped next m quiet back same (inl goes) =
         let id = own_of v.holds.id refl in

@@ -27,7 +27,7 @@ module _ {D : Type 0} (state : D → State) (honest : D → Type 0) (moment : D 
         (seen.at ∙ sym (ap (λ b. if b then down else up y.durable y.staged) y_up))
         (seen.open_writes ∙ sym called.after.memory.0) (seen.given ∙ sym called.after.memory.1)
 
-    -- what is known of the store behind it, where no horizon is new
+    -- what is known of the store after it, if no horizon is new
     pub made : (m : Machine) → ((h : ℕ) → IsHorizonIn store shards (stops state honest store shards new.devices) next h → Contains now.named h ⊎ NamesHorizon state honest store shards old now h)
         → IsMade state honest moment left_since store shards old new now next m
     made m named = record {

@@ -90,7 +90,7 @@ module _ {D : Type 0} (state : D → State) (honest : D → Type 0) (moment : D 
     devices : new.devices ≡ old.devices
     devices = same_devices state honest moment left_since store shards old new now standing (shard s) (views.shard x) (views.shard y) called (ap (λ (z : ShardView D). devices_of (views.shard z)) same)
 
-    -- it is cut off where the shard has the prepare no longer
+    -- it is cut off if the shard no longer has the prepare
     cut_off : x.is_down ≡ false → find_in_doubt ticket.id (memory x).in_doubt ≡ None → IsCutOff now.nodes r r.holds
     cut_off is_up none = subst (IsCutOff now.nodes r) (sym holder.holds) (refused_tickets store shards before now r v.holds w way.2.0 (held_ticket s ticket) (memory x) standing.stands
         (record { running = holder.flow.there; asked = holder.flow.asked; holds = holder.holds; id = way.2.2; undecided = holder.flow.undecided }) way.2.1 has_ticket

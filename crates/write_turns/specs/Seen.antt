@@ -24,7 +24,7 @@ abbrev pub shown_until : Option WriteEnd → WriteView → Bool → Option FlowV
 shown_until None v is_cancelled = Some (shown v is_cancelled)
 shown_until (Some end) v is_cancelled = None
 
--- A turn tells that the flow goes on, or how it ended; nothing where it was cancelled.
+-- A turn tells that the flow goes on, or how it ended; nothing if it was cancelled.
 abbrev pub told_end : Bool → WriteEnd → List Told
 told_end true end = []
 told_end false (Wrote place) = answered (wrote place) ∷ []

@@ -1,4 +1,4 @@
--- A turn of a write flow: `next_call` asks a call, `ask` makes it of the node that it names, and `give` makes of the flow what the reply makes of it.
+-- A turn of a write flow: `next_call` asks for a call, `ask` makes it, at the node that it names, and `give` applies the reply to the flow.
 use Rattle.std.specs.Prelude.{◌≤◌, ℕ, Bool, List, MatchOption}
 use Rattle.device.specs.Device.{State}
 use Rattle.calls.specs.Asking.{Answered}
@@ -33,7 +33,7 @@ module _ {D : Type 0} (state : D → State) (honest : D → Type 0) (moment : D 
     pub slots : SlotTurns slot (shown v is_cancelled) (shown_until later.ended later is_cancelled) old new
 
   -- The law of such a call: it is a turn of the flow, and keeps the promise of a step. The flow goes on with what it is then seen to hold, or ends with
-  -- what is told: the place of its write, where that is kept and the log has the write there, or a refusal that has its cause.
+  -- what is told: the place of its write, if that is kept and the log has the write there, or a refusal that has its cause.
   abbrev pub TurnsBy : NodeCall → Type 0
   TurnsBy call = (old new : Store D) (slot : ℕ) (is_cancelled : Bool) (v later : WriteView) → MakesCall old new slot is_cancelled v later call
       → TurnRuns state honest moment left_since store shards old slot (told_of is_cancelled later.ended) new

@@ -5,8 +5,8 @@ ghost use Rattle.write_turns.specs.Turning.{AllTurn};
 
 use device::Device;
 
-/// Each call that a write flow asks is a turn of a run, whatever its node answers, down or refused: the flow goes on with what it is then seen to hold, or
-/// ends with the place of its write or with a refusal that has its cause.
+/// Each call that a write flow asks is a turn of a run, whatever its node answers, even down or refused: the flow goes on with what it is then seen to
+/// hold, or ends with the place of its write or with a refusal that has its cause.
 pub fn writes_take_their_turn<D: Device>()
     ensures { (store shards : ℕ) → AllTurn D.state D.honest D.moment D.left_since store shards }
 {}

@@ -13,12 +13,12 @@ pub fn learned_takes_its_turn<D: Device>()
     ensures { (store shards s : ℕ) → TurnsBy D.state D.honest D.moment D.left_since store shards (Shard s Learned) }
 {}
 
-/// And so is to ask the coordinator for decisions: those behind the place up to which all was kept when the write was begun.
+/// So is to ask the coordinator for decisions: those after the place up to which all was kept when the write was begun.
 pub fn batch_takes_its_turn<D: Device>()
     ensures { (store shards from to : ℕ) → TurnsBy D.state D.honest D.moment D.left_since store shards (Coordinator (Batch from to)) }
 {}
 
-/// And so is to let a shard learn them.
+/// So is to let a shard learn them.
 pub fn learn_takes_its_turn<D: Device>()
     ensures { (store shards s : ℕ) (batch : BatchValue) → TurnsBy D.state D.honest D.moment D.left_since store shards (Shard s (Learn batch)) }
 {}

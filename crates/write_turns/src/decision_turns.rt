@@ -20,7 +20,7 @@ pub fn decide_takes_its_turn<D: Device>()
     ensures { (store shards : ℕ) (intent : IntentValue) (votes : Vec VoteValue) → TurnsBy D.state D.honest D.moment D.left_since store shards (Coordinator (Decide intent votes)) }
 {}
 
-/// To ask for the outcome of a decision is a turn of a run: the write ends with its place, where that is kept, or with `Unsure`.
+/// To ask for the outcome of a decision is a turn of a run: the write ends with its place, if that is kept, or with `Unsure`.
 pub fn outcome_takes_its_turn<D: Device>()
     ensures { (store shards : ℕ) (d : DecidedValue) → TurnsBy D.state D.honest D.moment D.left_since store shards (Coordinator (Outcome d)) }
 {}

@@ -12,7 +12,7 @@ pub fn shard_flush_takes_its_turn<D: Device>()
     ensures { (store shards s : ℕ) → TurnsBy D.state D.honest D.moment D.left_since store shards (Shard s flush_shard) }
 {}
 
-/// And so is one of the coordinator, before a decision that found it full, or before its outcome.
+/// So is one of the coordinator, before a decision that found it full, or before its outcome.
 pub fn coordinator_flush_takes_its_turn<D: Device>()
     ensures { (store shards : ℕ) → TurnsBy D.state D.honest D.moment D.left_since store shards (Coordinator flush_coordinator) }
 {}

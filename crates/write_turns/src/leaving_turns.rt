@@ -15,12 +15,12 @@ pub fn abort_takes_its_turn<D: Device>()
     ensures { (store shards : ℕ) (intent : IntentValue) → TurnsBy D.state D.honest D.moment D.left_since store shards (Coordinator (Abort intent)) }
 {}
 
-/// And so is to inquire what became of it, where the intent is spent.
+/// So is to inquire what became of it, if the intent is spent.
 pub fn inquire_takes_its_turn<D: Device>()
     ensures { (store shards : ℕ) (id : WriteId) → TurnsBy D.state D.honest D.moment D.left_since store shards (Coordinator (Inquire id)) }
 {}
 
-/// And so is to drop it at a shard, whether or not that is up.
+/// So is to drop it at a shard, whether or not that is up.
 pub fn drop_takes_its_turn<D: Device>()
     ensures { (store shards s : ℕ) (verdict : VerdictValue) (held : Option Held) → TurnsBy D.state D.honest D.moment D.left_since store shards (Shard s (DropWrite verdict held)) }
 {}

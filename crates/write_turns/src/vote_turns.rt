@@ -7,7 +7,7 @@ ghost use Rattle.write_turns.specs.Turning.{TurnsBy};
 
 use device::Device;
 
-/// To ask a shard to prepare its part is a turn of a run: the flow goes on with a ticket, waits for a flush where the shard is full for the first time, or
+/// To ask a shard to prepare its part is a turn of a run: the flow goes on with a ticket, waits for a flush if the shard is full for the first time, or
 /// goes out with a refusal that has its cause.
 pub fn prepare_takes_its_turn<D: Device>()
     ensures { (store shards s : ℕ) (intent : IntentValue) → TurnsBy D.state D.honest D.moment D.left_since store shards (Shard s (StagePrepare intent)) }

@@ -14,7 +14,7 @@ use tuples::{Change, Refusal};
 // Texts that name no store are the same at every store.
 const ANY_STORE: u64 = 0;
 
-/// Opens the shard: what it has learned up to, the writes in doubt, its versions, and the bytes of its devices behind the opening.
+/// Opens the shard: what it has learned up to, the writes in doubt, its versions, and the bytes of its devices after the opening.
 pub(crate) fn open_shard<D: Device>(
     alloc: Global,
     me: Identity,
@@ -50,7 +50,7 @@ fn tell_shard<D: Device>(
     Ok(Printed::Versions(&rows).write_to(ANY_STORE, out)?)
 }
 
-/// Opens the coordinator: its kept place and its horizon, its decisions above that with their changes, and the bytes of its devices behind the opening.
+/// Opens the coordinator: its kept place and its horizon, its decisions above that with their changes, and the bytes of its devices after the opening.
 pub(crate) fn open_coordinator<D: Device>(
     alloc: Global,
     me: Identity,

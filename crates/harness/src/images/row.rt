@@ -20,7 +20,7 @@ pub(crate) struct Row<'a> {
 }
 
 impl<'a> Row<'a> {
-    /// What the row says; none where it is no row.
+    /// What the row says; none if it is not a row.
     pub(crate) fn read(row: &'a str) -> Option<Row<'a>> {
         let (node, rest) = row.split_once(' ')?;
         let (store, rest) = rest.split_once(' ')?;

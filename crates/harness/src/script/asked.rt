@@ -30,8 +30,8 @@ pub(crate) enum Asked<'a> {
 }
 
 impl<'a> Asked<'a> {
-    /// What the words ask for: `files` with a folder, the id of a store and its number of shards, or `failing` with the number of
-    /// a disk, from 0, the number of its call that fails, from 1, and the byte that is found then. None where they are other words.
+    /// What the words ask for: `files` with a folder, the id of a store and its number of shards, or `failing` with the number of a
+    /// disk, from 0, the number of its call that fails, from 1, and the byte that is found then. None if they are other words.
     pub(crate) fn read(words: &[&'a str]) -> Option<Asked<'a>> {
         let [kind, first, second, third] = *words else {
             return None;

@@ -73,7 +73,7 @@ impl Listed {
         Ok(())
     }
 
-    // What is asked for is lent, since each way out of a function that owns it is proved.
+    // What is asked for is borrowed, since each exit of a function that owns it is proved.
     fn write_lent(&mut self, write: &Write) -> Result<Written, Refusal> {
         for condition in write.conditions() {
             if !self.is_met(condition) {
@@ -81,7 +81,7 @@ impl Listed {
             }
         }
         let place = self.place.saturating_add(1);
-        // All its touches are there, or none is, where memory is refused.
+        // All its touches are there, or none is, if memory is refused.
         let old = self.touches.len();
         if self.touch_all(place, write.changes()).is_err() {
             self.touches.truncate(old);
@@ -115,7 +115,7 @@ impl Listed {
         Ok(())
     }
 
-    // Adds the events behind a place, and gives the place of the last of them.
+    // Adds the events after a place, and gives the place of the last of them.
     fn list(
         &self,
         from: u64,

@@ -1,4 +1,4 @@
--- The flows that stay are such as were there, but for the one that was cancelled.
+-- The flows that stay are such as were there, except for the one that was cancelled.
 use Rattle.std.proofs.Common.{Bool, None, Some, subst, sym}
 use Rattle.cluster.specs.Cancels.{Cancels, left_of}
 use Rattle.cluster.proofs.Cancels.{still_runs}

@@ -1,4 +1,4 @@
--- Two devices less and one node more for each shard, and each was opened over its own.
+-- Two fewer devices and one more node for each shard, and each was opened over its own.
 use Rattle.std.proofs.Common.{◌≡◌, ◌+◌, ◌*◌}
 use Rattle.std.specs.Vec.{vec_capacity, vec_len}
 use Rattle.cluster.proofs.Openings.{SoFar}

@@ -1,4 +1,4 @@
--- The steps so far were taken, and told what is behind the events that there were.
+-- The steps so far were taken, and told what is after the events that there were.
 use Rattle.cluster.proofs.Runs.{RanSoFar}
 use Rattle.cluster.proofs.running.run.Given as goal
 

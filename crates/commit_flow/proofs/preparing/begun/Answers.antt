@@ -1,4 +1,4 @@
--- No shard was asked.
+-- No shard was asked yet.
 use Rattle.commit_flow.proofs.Ballots.{none_asked}
 use Rattle.commit_flow.proofs.preparing.begun.Goals as goal
 

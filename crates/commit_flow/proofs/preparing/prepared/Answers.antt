@@ -1,4 +1,4 @@
--- One shard more was asked.
+-- One more shard was asked.
 use Rattle.std.proofs.Common.{ℕ, ◌+◌, ◌∙◌, ap, sym}
 use Rattle.commit_flow.specs.Participants.{participants_below, ticket_shards}
 use Rattle.commit_flow.proofs.Ballots.{one_asked}

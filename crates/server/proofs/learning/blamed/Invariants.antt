@@ -2,4 +2,4 @@ use Rattle.locked.specs.Opening.{HasFound}
 use Rattle.server.proofs.learning.blamed.Given as goal
 
 abbrev pub invariant-loop-shard : goal.invariant-loop-shard
-invariant-loop-shard g l = record { found : g.B.Room.rests → HasFound g.B.Room.first g.B.Room.low l.first }
+invariant-loop-shard g l = record { found : g.B.Room.rests → HasFound g.B.Room.first g.B.Room.low l.first.pass }

@@ -8,6 +8,7 @@ use Rattle.tuples.specs.Walking.{meets_check}
 use Rattle.versions.specs.Rows.{IsPicked, is_one_of, listed, versions_of}
 use Rattle.versions.specs.declared.history.Row.{Row}
 use Rattle.versions.proofs.Asked.{asked_of, selection_from, unasked_of}
+use Rattle.versions.proofs.Counted.{counted_more, counted_none}
 use Rattle.versions.proofs.Firsts.{check_before, check_within}
 use Rattle.versions.proofs.Selected.{IsWalk, from_low, keeps_first, kept_from_first, kept_of, kept_selection, low_from, none_past, passes_first, skips_first, walk_from, walk_rest}
 use Rattle.versions.proofs.Tables.{Entries}
@@ -27,10 +28,11 @@ loop-tuple-init g c =
       ap (λ (l : List Tuple). l ++ kept_of place (meets_check x u) c.into_iter-tuple-iterator.result) c.new-tuples.ensures.items
           ∙ ap (λ (l : Entries). kept_of place (meets_check x u) l) gives
           ∙ kept_from_first place (meets_check x u) (λ t. is_le (ghosts.cmp first t) && true) (λ t spelled has. from_low first t (check_before x u c.requires.plain t has)) es c.requires.table.spelled,
+      counted_none c.new-tuples.result.items _ c.new-tuples.ensures.items,
     )
 
-pub returns-then-not-is_of : goal.returns-then-not-is_of
-returns-then-not-is_of g c =
+pub returns-then-not-is_of-clause-rows : goal.returns-then-not-is_of-clause-rows
+returns-then-not-is_of-clause-rows g c =
     let place = c.args.place in
     let x = c.args.userset.now in
     let u = c.args.user.now in
@@ -47,8 +49,8 @@ returns-then-not-is_of g c =
     selection_from (there_at (listed c.args.table.now.entries) place) x u items
     (subst (IsPicked (there_at (listed c.args.table.now.entries) place) q) (sym all) (kept_selection place q c.args.table.now.entries c.requires.table.in_order))
 
-pub returns : goal.returns
-returns g c =
+pub returns-clause-rows : goal.returns-clause-rows
+returns-clause-rows g c =
     let place = c.args.place in
     let x = c.args.userset.now in
     let u = c.args.user.now in
@@ -78,6 +80,7 @@ loop-tuple-preserved-in_ok-push g c =
           ∙ ap (λ (l : List Tuple). items ++ l) (sym (keeps_first place q t h rest has there))
           ∙ ap (λ (l : Entries). items ++ kept_of place q l) (sym cut)
           ∙ c.loop-tuple.invariant.1,
+      counted_more items c.push.new.self.items t _ _ _ pushed c.in_ok-copy.ensures.counted c.loop-tuple.invariant.2,
     )
 
 pub loop-tuple-preserved-else-is_there_at : goal.loop-tuple-preserved-else-is_there_at
@@ -94,6 +97,7 @@ loop-tuple-preserved-else-is_there_at g c =
     let gone : there_at (versions_of t h.items) place t ≡ false = ap (λ (l : List Row). there_at (versions_of t l) place t) (sym c.deref.ensures.value) ∙ sym (c.is_there_at.ensures.there t) ∙ c.if-is_there_at.false in (
       walk_rest (holding x u) t h rest (subst (IsWalk (holding x u)) cut c.loop-tuple.invariant.0),
       ap (λ (l : List Tuple). items ++ l) (sym (skips_first place q t h rest gone)) ∙ ap (λ (l : Entries). items ++ kept_of place q l) (sym cut) ∙ c.loop-tuple.invariant.1,
+      c.loop-tuple.invariant.2,
     )
 
 pub loop-tuple-preserved : goal.loop-tuple-preserved
@@ -110,4 +114,5 @@ loop-tuple-preserved g c =
     let misses : q t ≡ false = asked_of x u t (sym c.is_of.ensures ∙ c.if-not-is_of.false) ∙ sym c.is_asked.ensures ∙ c.if-is_asked.false in (
       walk_rest (holding x u) t h rest (subst (IsWalk (holding x u)) cut c.loop-tuple.invariant.0),
       ap (λ (l : List Tuple). items ++ l) (sym (passes_first place q t h rest misses)) ∙ ap (λ (l : Entries). items ++ kept_of place q l) (sym cut) ∙ c.loop-tuple.invariant.1,
+      c.loop-tuple.invariant.2,
     )

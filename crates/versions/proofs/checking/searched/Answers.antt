@@ -10,8 +10,8 @@ use Rattle.versions.specs.Rows.{IsPicked, is_set_of, listed}
 use Rattle.versions.proofs.Asked.{of_user}
 use Rattle.versions.proofs.checking.searched.Goals as goal
 
-pub returns-in_ok-holding-in-Id : goal.returns-in_ok-holding-in-Id
-returns-in_ok-holding-in-Id g c =
+pub returns-in_ok-holding-in-Id-clause-rows : goal.returns-in_ok-holding-in-Id-clause-rows
+returns-in_ok-holding-in-Id-clause-rows g c =
     let there = there_at (listed c.args.table.now.entries) c.args.place in
     let x = c.args.userset.now in
     let sets : List Tuple = c.in_ok-sets.sets.items in
@@ -22,4 +22,7 @@ returns-in_ok-holding-in-Id g c =
     (λ v is. subst (IsCheckSelection there x c.args.user.now)
     (sym (is ∙ ap (λ (t : Tuple). cond (there t) (t ∷ sets) sets) h))
     (subst (λ (u : User). IsCheckSelection there x u (cond (there (holding x u)) (holding x u ∷ sets) sets)) (sym user) (of_user there x c.in-Id.field-0 sets picked)))
-    c.with_user.ensures
+    c.with_user.ensures.rows
+
+pub returns-in_ok-holding-in-Id-clause-counted : goal.returns-in_ok-holding-in-Id-clause-counted
+returns-in_ok-holding-in-Id-clause-counted g c = IfOk-weaker c.with_user.result _ _ (λ v is. is ∙ c.in_ok-sets.ensures.counted) c.with_user.ensures.counted

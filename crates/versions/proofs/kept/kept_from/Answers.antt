@@ -6,7 +6,7 @@ use Rattle.tuples.specs.Versions.{there_at}
 use Rattle.versions.specs.Index.{count_of}
 use Rattle.versions.specs.Rows.{IsPicked, listed, versions_of}
 use Rattle.versions.specs.declared.history.Row.{Row}
-use Rattle.versions.proofs.Counted.{count_fewer, looked, rows_seen, within_most}
+use Rattle.versions.proofs.Counted.{count_fewer, counted_more, counted_none, looked, rows_seen, within_most}
 use Rattle.versions.proofs.Selected.{IsWalk, from_low, keeps_first, kept_from_first, kept_of, kept_selection, low_from, none_left, skips_first, walk_from, walk_rest}
 use Rattle.versions.proofs.Tables.{Entries}
 use Rattle.versions.proofs.kept.kept_from.Goals as goal
@@ -24,6 +24,7 @@ loop-tuple-init g c =
           ∙ kept_from_first place q (λ t. is_le (ghosts.cmp first t) && true) (λ t spelled has. from_low first t (c.requires.first.before t spelled has)) es c.requires.table.spelled,
       let fewer : count_of q (listed c.into_iter-tuple-iterator.result) ≤ count_of q (listed es) = subst (λ (l : Entries). count_of q (listed l) ≤ count_of q (listed es)) (sym gives) (count_fewer q (λ t. is_le (ghosts.cmp first t) && true) es) in
           omega (arith, fewer),
+      counted_none c.new-tuples.result.items _ c.new-tuples.ensures.items,
     )
 
 pub loop-tuple-preserved : goal.loop-tuple-preserved
@@ -40,6 +41,7 @@ loop-tuple-preserved g c =
       walk_rest c.args.first t h rest (subst (IsWalk c.args.first) cut c.loop-tuple.invariant.0),
       ap (λ (l : List Tuple). items ++ l) (sym (skips_first place q t h rest gone)) ∙ ap (λ (l : Entries). items ++ kept_of place q l) (sym cut) ∙ c.loop-tuple.invariant.1,
       looked q t h rest c.loop-tuple.tuple-iterator _ _ _ has (rows_seen _ _ h.items (sym c.deref.ensures.value) c.is_there_at.ensures.steps) cut c.loop-tuple.invariant.2,
+      c.loop-tuple.invariant.3,
     )
 
 pub loop-tuple-preserved-in_ok-push : goal.loop-tuple-preserved-in_ok-push
@@ -61,6 +63,7 @@ loop-tuple-preserved-in_ok-push g c =
           ∙ ap (λ (l : Entries). items ++ kept_of place q l) (sym cut)
           ∙ c.loop-tuple.invariant.1,
       looked q t h rest c.loop-tuple.tuple-iterator _ _ _ has (rows_seen _ _ h.items (sym c.deref.ensures.value) c.is_there_at.ensures.steps) cut c.loop-tuple.invariant.2,
+      counted_more items c.push.new.self.items t _ _ _ pushed c.in_ok-copy.ensures.counted c.loop-tuple.invariant.3,
     )
 
 pub returns-then-not-asks_for-clause-rows : goal.returns-then-not-asks_for-clause-rows

@@ -6,9 +6,11 @@ use Rattle.tuples.specs.Order.{user_cmp}
 use Rattle.tuples.specs.Reads.{IsSelection, has_relation, meets, same_name}
 use Rattle.tuples.specs.Versions.{there_at}
 use Rattle.versions.specs.Alike.{of_tuple}
-use Rattle.versions.specs.Index.{IsFirstOf, by_user_cmp, is_of_user}
+use Rattle.tuples.specs.ByUser.{by_user_cmp}
+use Rattle.versions.specs.Budget.{weight}
+use Rattle.versions.specs.Index.{IsFirstOf, is_of_user}
 use Rattle.versions.specs.Rows.{found, listed, rows_in, versions_of}
-use Rattle.versions.proofs.Counted.{rows_count, seen, sum_fewer, sum_most, sum_of, unseen}
+use Rattle.versions.proofs.Counted.{counted_more, counted_none, rows_count, seen, sum_fewer, sum_most, sum_of, unseen}
 use Rattle.versions.proofs.OfUser.{IsWalkBy, asked_of, by_low, chosen_from_first, chosen_of, chosen_selection, index_spelled, keeps_tuple, low_by, met, missed, none_left_by, of_user_meets, skips_tuple, there_by_own, walk_by_from, walk_by_rest}
 use Rattle.versions.proofs.Selected.{there_in}
 use Rattle.versions.proofs.Tables.{Entries}
@@ -22,8 +24,8 @@ loop-named-init g c =
     let n = c.args.asked.namespace.now in
     let u = c.args.asked.user.now in
     let r = c.args.asked.relation.now in
-    let first = c.new.result in
-    let starts : IsFirstOf n u first = let is : c.new.result ≡ c.in_ok-first.first = search rules in subst (IsFirstOf n u) (sym is) c.in_ok-first.ensures in
+    let first = c.in_ok-start.start in
+    let starts : IsFirstOf n u first = let is : c.in_ok-start.start ≡ c.in_ok-first.first = search rules in subst (IsFirstOf n u) (sym is) c.in_ok-first.ensures in
     let es : Entries = c.args.table.now.entries in
     let us : List Tuple = c.args.users.now.keys in
     let p : Tuple → Bool = λ t. is_le (by_user_cmp first t) && true in
@@ -34,6 +36,7 @@ loop-named-init g c =
           ∙ chosen_from_first place q p es (λ t spelled has. by_low first t (starts.before t spelled (of_user_meets n u r t has))) us (index_spelled us es c.requires.table c.requires.index),
       let fewer : sum_of q (listed es) c.into_iter-named-iterator.result ≤ sum_of q (listed es) us = subst (λ (l : List Tuple). sum_of q (listed es) l ≤ sum_of q (listed es) us) (sym gives) (sum_fewer q p (listed es) us) in
           omega (arith, fewer),
+      counted_none c.new-tuples.result.items _ c.new-tuples.ensures.items,
     )
 
 pub returns-then-not-is_of-clause-rows : goal.returns-then-not-is_of-clause-rows
@@ -48,6 +51,7 @@ returns-then-not-is_of-clause-rows g c =
     let u = c.args.asked.user.now in
     let r = c.args.asked.relation.now in
     let items : List Tuple = c.loop-named.tuples.items in
+    let tuple : c.in_ok-tuple.tuple ≡ t = search rules in
     let misses : is_of_user n u t ≡ false = search rules in
     let none : chosen_of place q es c.loop-named.named-iterator ≡ [] =
     ap (λ (l : List Tuple). chosen_of place q es l) cut
@@ -71,15 +75,18 @@ returns-clause-rows g c =
 pub returns-clause-steps : goal.returns-clause-steps
 returns-clause-steps g c = sum_most (meets (asked_of c.args.asked)) (listed c.args.table.now.entries) c.args.users.now.keys c.loop-named.named-iterator c.loop-named.steps c.args.steps.now c.range-named-items.ensures.ordered c.loop-named.invariant.2
 
-pub returns-in_err-copy-clause-steps : goal.returns-in_err-copy-clause-steps
-returns-in_err-copy-clause-steps g c =
+pub returns-in_err-tuple-clause-steps : goal.returns-in_err-tuple-clause-steps
+returns-in_err-tuple-clause-steps g c = sum_most (meets (asked_of c.args.asked)) (listed c.args.table.now.entries) c.args.users.now.keys c.loop-named.named-iterator c.loop-named.steps c.args.steps.now c.range-named-items.ensures.ordered c.loop-named.invariant.2
+
+pub returns-in_err-take-clause-steps : goal.returns-in_err-take-clause-steps
+returns-in_err-take-clause-steps g c =
     let place = c.args.place in
     let q = meets (asked_of c.args.asked) in
     let es : Entries = c.args.table.now.entries in
     let t : Tuple = c.in-Some.named.now in
     let rest : List Tuple = c.next.new.self in
     let cut : c.loop-named.named-iterator ≡ t ∷ rest = search rules in
-    let tuple : c.tuple-tuple.result.now ≡ t = search rules in
+    let tuple : c.in_ok-tuple.tuple ≡ t = search rules in
     let has : q t ≡ true = met (same_name t.object.namespace c.args.asked.namespace.now) (is_eq (user_cmp t.user c.args.asked.user.now)) (has_relation c.args.asked.relation.now t) (search rules) (search rules) in
     let own : versions_of t c.rows_of.result.now ≡ of_tuple t (listed es) = subst (λ (x : Tuple). versions_of x c.rows_of.result.now ≡ of_tuple x (listed es)) tuple c.rows_of.ensures.versions in
     let more : c.is_there_at.new.steps ≡ c.loop-named.steps + length (of_tuple t (listed es)) = c.is_there_at.ensures.steps ∙ ap (λ (m : ℕ). c.loop-named.steps + m) (rows_count t c.rows_of.result.now (listed es) own) in
@@ -94,7 +101,7 @@ returns-in_err-push-clause-steps g c =
     let t : Tuple = c.in-Some.named.now in
     let rest : List Tuple = c.next.new.self in
     let cut : c.loop-named.named-iterator ≡ t ∷ rest = search rules in
-    let tuple : c.tuple-tuple.result.now ≡ t = search rules in
+    let tuple : c.in_ok-tuple.tuple ≡ t = search rules in
     let has : q t ≡ true = met (same_name t.object.namespace c.args.asked.namespace.now) (is_eq (user_cmp t.user c.args.asked.user.now)) (has_relation c.args.asked.relation.now t) (search rules) (search rules) in
     let own : versions_of t c.rows_of.result.now ≡ of_tuple t (listed es) = subst (λ (x : Tuple). versions_of x c.rows_of.result.now ≡ of_tuple x (listed es)) tuple c.rows_of.ensures.versions in
     let more : c.is_there_at.new.steps ≡ c.loop-named.steps + length (of_tuple t (listed es)) = c.is_there_at.ensures.steps ∙ ap (λ (m : ℕ). c.loop-named.steps + m) (rows_count t c.rows_of.result.now (listed es) own) in
@@ -109,7 +116,7 @@ loop-named-preserved-then-is_there_at g c =
     let t : Tuple = c.in-Some.named.now in
     let rest : List Tuple = c.next.new.self in
     let cut : c.loop-named.named-iterator ≡ t ∷ rest = search rules in
-    let tuple : c.tuple-tuple.result.now ≡ t = search rules in
+    let tuple : c.in_ok-tuple.tuple ≡ t = search rules in
     let has : q t ≡ true = met (same_name t.object.namespace c.args.asked.namespace.now) (is_eq (user_cmp t.user c.args.asked.user.now)) (has_relation c.args.asked.relation.now t) (search rules) (search rules) in
     let own : versions_of t c.rows_of.result.now ≡ of_tuple t (listed es) = subst (λ (x : Tuple). versions_of x c.rows_of.result.now ≡ of_tuple x (listed es)) tuple c.rows_of.ensures.versions in
     let more : c.is_there_at.new.steps ≡ c.loop-named.steps + length (of_tuple t (listed es)) = c.is_there_at.ensures.steps ∙ ap (λ (m : ℕ). c.loop-named.steps + m) (rows_count t c.rows_of.result.now (listed es) own) in
@@ -127,6 +134,7 @@ loop-named-preserved-then-is_there_at g c =
           ∙ ap (λ (l : List Tuple). items ++ chosen_of place q es l) (sym cut)
           ∙ c.loop-named.invariant.1,
       counted,
+      counted_more items c.push.new.self.items t c.loop-named.budget c.take.new.self _ pushed (subst (λ (x : Tuple). c.take.new.self + weight x ≡ c.loop-named.budget) tuple c.in_ok-take.ensures.ok) c.loop-named.invariant.3,
     )
 
 pub loop-named-preserved : goal.loop-named-preserved
@@ -137,7 +145,7 @@ loop-named-preserved g c =
     let t : Tuple = c.in-Some.named.now in
     let rest : List Tuple = c.next.new.self in
     let cut : c.loop-named.named-iterator ≡ t ∷ rest = search rules in
-    let tuple : c.tuple-tuple.result.now ≡ t = search rules in
+    let tuple : c.in_ok-tuple.tuple ≡ t = search rules in
     let items : List Tuple = c.loop-named.tuples.items in
     let most = c.args.steps.now + sum_of q (listed es) c.args.users.now.keys in
     let left : (q t && there_in place t es) ≡ false → items ++ chosen_of place q es rest ≡ chosen_of place q es c.args.users.now.keys =
@@ -158,11 +166,13 @@ loop-named-preserved g c =
             (c.loop-named.invariant.0.0, c.loop-named.invariant.0.1, walk),
             left (and_right (q t) (there_in place t es) gone),
             seen q t (listed es) rest c.loop-named.named-iterator c.else-has_given.steps c.loop-named.steps most has more cut c.loop-named.invariant.2,
+            c.loop-named.invariant.3,
           )
       | else-has_given-via-else-has_given w ↦
           let misses : q t ≡ false = missed (same_name t.object.namespace c.args.asked.namespace.now) (is_eq (user_cmp t.user c.args.asked.user.now)) (has_relation c.args.asked.relation.now t) (search rules) in (
             (c.loop-named.invariant.0.0, c.loop-named.invariant.0.1, walk),
             left (ap (λ (b : Bool). b && there_in place t es) misses),
             subst (λ (m : ℕ). m + sum_of q (listed es) rest ≤ most) (sym w.steps-is) (unseen q t (listed es) rest c.loop-named.named-iterator c.loop-named.steps most cut c.loop-named.invariant.2),
+            c.loop-named.invariant.3,
           )
     ]

@@ -25,8 +25,8 @@ returns-in-Ok-clause-index c =
     let t = c.args.tuple.now in
     let es : Entries = c.args.table.now.entries in
     let key : c.in_ok-key.key ≡ t = search rules in
-    let named : c.new.result ≡ t = search rules in
-    index_changed c.new.result t named (Some c.in_ok-own.own) c.args.users.now.keys c.insert.new.self.keys es c.insert-2.new.self.entries c.requires.index
+    let named : c.in_ok-named.named ≡ t = search rules in
+    index_changed c.in_ok-named.named t named (Some c.in_ok-own.own) c.args.users.now.keys c.insert.new.self.keys es c.insert-2.new.self.entries c.requires.index
     (c.in_ok-insert.ensures.updates).0
     (λ q. (c.in-Ok.ensures.updates).0 q ∙ ap (λ (k : Tuple). cond (is_at (ghosts.cmp k) q) (Some c.in_ok-own.own) (found q es)) key)
 
@@ -45,7 +45,6 @@ pub returns-clause-index : goal.returns-clause-index
 returns-clause-index c =
     let t = c.args.tuple.now in
     let es : Entries = c.args.table.now.entries in
-    let named : c.new.result ≡ t = search rules in
-    let again : c.new-in-Err.result ≡ t = search rules in
-    index_back c.new.result c.new-in-Err.result t named again c.args.users.now.keys c.insert.new.self.keys c.remove-in-Err.new.self.keys es c.insert-2.new.self.entries c.requires.index c.requires.new (search rules)
-    (c.in_ok-insert.ensures.updates).0 (c.remove-in-Err.ensures.updates).0
+    let named : c.in_ok-named.named ≡ t = search rules in
+    index_back c.in_ok-named.named t named c.args.users.now.keys c.insert.new.self.keys c.forget.new.users.keys es c.insert-2.new.self.entries c.requires.index c.requires.new (search rules)
+    (c.in_ok-insert.ensures.updates).0 c.forget.ensures

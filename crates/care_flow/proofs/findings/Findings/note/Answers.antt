@@ -1,4 +1,4 @@
--- One write more was found, the one that comes next.
+-- One more write was found, the one that comes next.
 use Rattle.care_flow.proofs.Found.{one_more_is_found}
 use Rattle.care_flow.proofs.findings.Findings.note.Goals as goal
 

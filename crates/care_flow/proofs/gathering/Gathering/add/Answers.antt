@@ -1,4 +1,4 @@
--- One shard more has settled, and there was room for it.
+-- One more shard has settled, and there was room for it.
 use Rattle.std.proofs.Common.{◌≡◌, ◌≤◌, ◌<◌, arith}
 use Rattle.care_flow.proofs.Settling.{one_more_has_settled}
 use Rattle.care_flow.proofs.gathering.Gathering.add.Goals as goal

@@ -1,4 +1,4 @@
--- Where the reply ends it, the shard has learned so far.
+-- If the reply ends it, the shard has learned so far.
 use Rattle.std.proofs.Common.{◌≡◌, Some}
 use Rattle.care_flow.specs.declared.learning.Phase.TheVariants.{Out}
 use Rattle.care_flow.specs.LearnPhases.{held_out, step_out, view_of}

@@ -1,4 +1,4 @@
--- A write goes on where a call of it comes next.
+-- A write goes on if a call of it comes next.
 use Rattle.std.proofs.Common.{subst, sym}
 use Rattle.cluster.specs.declared.flow.Flow.{Flow}
 use Rattle.cluster.specs.declared.flow.Flow.TheVariants.{Write}

@@ -1,4 +1,4 @@
-use Rattle.std.proofs.Common.{sym, subst, true≢false}
+use Rattle.std.proofs.Common.{◌≡◌, ◌∙◌, [], ℕ, List, Option, None, Some, sym, subst, true≢false}
 use Rattle.device.proofs.Moments.{leaves_then}
 use Rattle.gated.specs.Gated.{HasList}
 use Rattle.journal.specs.Beginnings.{HasNoneOrBegins, HasNoneOrNeverOpens}
@@ -113,3 +113,19 @@ returns-in-Err-begin_in-clause-moments g c =
           (opened_none state g.D.Device.moment g.D.Device.left_since c.args.a a none_a (g.met.D.Device.reads_left c.args.a hon_a) _ up (c.in-Ok.ensures.ok hon_a))),
       opens_none state g.D.Device.moment g.D.Device.left_since c.args.b b none_b (g.met.D.Device.reads_left c.args.b hon_b) (λ stopped. absurd (true≢false (sym (c.in-Ok-open.ensures.stopped stopped)))) (c.in-Ok-open.ensures.any_moment hon_b),
     ))
+
+no_list : (found : Option (List (List ℕ))) → found ≡ None → found ≡ Some [] → ⊥
+no_list found none empty = let bad : None ≡ Some [] = sym none ∙ empty in absurd cc
+
+none_of : (found : Option (List (List ℕ))) (bodies : List (List ℕ)) → found ≡ Some bodies → found ≡ Some [] → bodies ≡ []
+none_of found bodies was empty = let same : Some bodies ≡ Some [] = sym was ∙ empty in cc
+
+pub returns-in-Err-clause-damaged : goal.returns-in-Err-clause-damaged
+returns-in-Err-clause-damaged g c = λ hon_a hon_b damaged empty_a empty_b. no_list _ (c.in-Err.ensures.damaged hon_a damaged) empty_a
+
+pub returns-in-Err-open-clause-damaged : goal.returns-in-Err-open-clause-damaged
+returns-in-Err-open-clause-damaged g c = λ hon_a hon_b damaged empty_a empty_b. no_list _ (c.in-Err-open.ensures.damaged hon_b damaged) empty_b
+
+pub returns-in-Err-begin_in-clause-damaged : goal.returns-in-Err-begin_in-clause-damaged
+returns-in-Err-begin_in-clause-damaged g c = λ hon_a hon_b damaged empty_a empty_b.
+    c.in-Err-begin_in.ensures.damaged (cc) (none_of _ _ (c.in-Ok.ensures.ok hon_a).was empty_a) (none_of _ _ (c.in-Ok-open.ensures.ok hon_b).was empty_b)

@@ -9,19 +9,19 @@ use Rattle.locked.proofs.store.Store.check.Goals as goal
 
 pub returns-then-has_passed-clause-refused : goal.returns-then-has_passed-clause-refused
 returns-then-has_passed-clause-refused g c rests =
-    passed_refuses_check c.args.told.now c.has_passed.new.caller.seen c.has_passed.new.caller.horizon c.args.freshness (length c.args.caller.now.seen) c.args.userset.now (c.has_passed.ensures.passed c.if-has_passed.true)
+    passed_refuses_check c.args.told.now c.has_passed.new.caller.pass.seen c.has_passed.new.caller.pass.horizon c.args.freshness (length c.args.caller.now.pass.seen) c.args.userset.now (c.has_passed.ensures.passed c.if-has_passed.true)
 
 pub returns-then-not-begins_again-clause-answer : goal.returns-then-not-begins_again-clause-answer
 returns-then-not-begins_again-clause-answer g c rests =
-    let later = later_on c.args.caller.now c.has_passed.new.caller c.loop.caller c.has_passed.ensures.caller c.loop.invariant.later in
-    let seen = c.try_check.new.caller.seen in
-    let more = length c.loop.caller.seen in
+    let later = later_on c.args.caller.now.pass c.has_passed.new.caller.pass c.loop.caller.pass c.has_passed.ensures.caller c.loop.invariant.later in
+    let seen = c.try_check.new.caller.pass.seen in
+    let more = length c.loop.caller.pass.seen in
     let end = ending_of c.in-Ok.end in
-    check_ends_of_less seen c.args.freshness (length c.args.caller.now.seen) more c.args.userset.now c.args.user end (prefix_length c.args.caller.now.seen c.loop.caller.seen later.seen)
+    check_ends_of_less seen c.args.freshness (length c.args.caller.now.pass.seen) more c.args.userset.now c.args.user end (prefix_length c.args.caller.now.pass.seen c.loop.caller.pass.seen later.seen)
     (subst (λ (u : User). CheckEnds seen c.args.freshness more c.args.userset.now u end) c.loop.invariant.user (c.in-Ok.ensures.answer rests))
 
 pub returns-then-not-begins_again-clause-refused : goal.returns-then-not-begins_again-clause-refused
 returns-then-not-begins_again-clause-refused g c rests =
-    let later = later_on c.args.caller.now c.has_passed.new.caller c.loop.caller c.has_passed.ensures.caller c.loop.invariant.later in
-    check_refuses_of_less c.try_check.new.told c.try_check.new.caller.seen c.try_check.new.caller.horizon c.args.freshness (length c.args.caller.now.seen) (length c.loop.caller.seen) c.args.userset.now
-    (ending_of c.in-Ok.end) (prefix_length c.args.caller.now.seen c.loop.caller.seen later.seen) (c.in-Ok.ensures.refused rests)
+    let later = later_on c.args.caller.now.pass c.has_passed.new.caller.pass c.loop.caller.pass c.has_passed.ensures.caller c.loop.invariant.later in
+    check_refuses_of_less c.try_check.new.told c.try_check.new.caller.pass.seen c.try_check.new.caller.pass.horizon c.args.freshness (length c.args.caller.now.pass.seen) (length c.loop.caller.pass.seen) c.args.userset.now
+    (ending_of c.in-Ok.end) (prefix_length c.args.caller.now.pass.seen c.loop.caller.pass.seen later.seen) (c.in-Ok.ensures.refused rests)

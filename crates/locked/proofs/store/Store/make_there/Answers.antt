@@ -6,8 +6,8 @@ use Rattle.locked.proofs.store.Store.make_there.Goals as goal
 
 pub returns-in-Flush-clause-serves : goal.returns-in-Flush-clause-serves
 returns-in-Flush-clause-serves g c =
-    subst (λ (call : CoordinatorCall). Serves g.B.Room.rests g.B.Room.shards c.args.pass.now c.flush.new.pass (Coordinator call) c.flush.result) (sym c.in-Flush.is)
-    (log_flush_serves g.B.Room.rests g.B.Room.shards c.args.pass.now c.flush.new.pass c.flush.result c.flush.ensures.caller c.flush.ensures.belongs)
+    subst (λ (call : CoordinatorCall). Serves g.B.Room.rests g.B.Room.shards c.args.caller.now.pass c.flush.new.caller.pass (Coordinator call) c.flush.result) (sym c.in-Flush.is)
+    (log_flush_serves g.B.Room.rests g.B.Room.shards c.args.caller.now.pass c.flush.new.caller.pass c.flush.result c.flush.ensures.caller c.flush.ensures.belongs)
 
 pub returns-in-Flush-clause-tells : goal.returns-in-Flush-clause-tells
-returns-in-Flush-clause-tells g c = λ rests asked above le. subst (λ (call : CoordinatorCall). TellsWriter (IsTried c.flush.new.tried.seen) asked above c.flush.new.pass.seen (Coordinator call) c.flush.result) (sym c.in-Flush.is) tt
+returns-in-Flush-clause-tells g c = λ rests asked above le. subst (λ (call : CoordinatorCall). TellsWriter (IsTried c.flush.new.caller.tried.seen) asked above c.flush.new.caller.pass.seen (Coordinator call) c.flush.result) (sym c.in-Flush.is) tt

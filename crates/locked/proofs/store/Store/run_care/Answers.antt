@@ -10,6 +10,6 @@ loop-preserved g c =
       runs = (tt, tt);
       of = c.turn.ensures.of;
       goes = turns.given.1;
-      later = later_on c.args.caller.now c.loop.caller c.turn.new.caller was.later turns.serves.later;
-      held = λ h. care_goes_on g.B.Room.rests g.B.Room.shards c.loop.caller c.turn.new.caller c.loop.told c.turn.new.told c.loop.flow c.turn.new.flow (was.held h) turns h;
+      later = later_on c.args.caller.now.pass c.loop.caller.pass c.turn.new.caller.pass was.later turns.serves.later;
+      held = λ h. care_goes_on g.B.Room.rests g.B.Room.shards c.loop.caller.pass c.turn.new.caller.pass c.loop.told c.turn.new.told c.loop.flow c.turn.new.flow (was.held h) turns h;
     }

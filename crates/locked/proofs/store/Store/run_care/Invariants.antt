@@ -8,6 +8,6 @@ invariant-loop g l = record {
   runs : (goal.iterator-loop g).can_next l.iterator' × (goal.iterator-loop g).is_finite l.iterator';
   of : IsThere g.B.Room.shards l.flow;
   goes : GoesOrEnds (has_next l.flow) (end_of l.flow);
-  later : IsLater l.initial.caller l.caller;
-  held : g.B.Room.rests → IsCareOf l.caller.seen l.caller.horizon l.flow;
+  later : IsLater l.initial.caller.pass l.caller.pass;
+  held : g.B.Room.rests → IsCareOf l.caller.pass.seen l.caller.pass.horizon l.flow;
 }

@@ -9,7 +9,7 @@ invariant-loop g l = record {
   fresh : l.flow.fresh ≡ l.initial.flow.fresh;
   user : l.flow.user ≡ l.initial.flow.user;
   rests : l.flow.seen.awaited ≡ None;
-  later : IsLater l.initial.caller l.caller;
-  held : g.B.Room.rests → IsCheckOf l.caller.seen l.flow.fresh l.userset l.flow.user l.flow.seen;
-  reason : g.B.Room.rests → CheckHasReason l.told l.flow.fresh l.caller.seen l.caller.horizon l.userset l.flow.seen;
+  later : IsLater l.initial.caller.pass l.caller.pass;
+  held : g.B.Room.rests → IsCheckOf l.caller.pass.seen l.flow.fresh l.userset l.flow.user l.flow.seen;
+  reason : g.B.Room.rests → CheckHasReason l.told l.flow.fresh l.caller.pass.seen l.caller.pass.horizon l.userset l.flow.seen;
 }

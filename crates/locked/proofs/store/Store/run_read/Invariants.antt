@@ -9,7 +9,7 @@ invariant-loop g l = record {
   fresh : l.flow.fresh ≡ l.initial.flow.fresh;
   sets : l.flow.sets ≡ l.initial.flow.sets;
   rests : l.flow.seen.awaited ≡ None;
-  later : IsLater l.initial.caller l.caller;
-  held : g.B.Room.rests → IsReadOf g.B.Room.shards l.caller.seen l.flow.fresh l.flow.sets l.flow.seen;
-  reason : g.B.Room.rests → ReadHasReason l.told l.flow.fresh l.caller.seen l.caller.horizon l.flow.seen;
+  later : IsLater l.initial.caller.pass l.caller.pass;
+  held : g.B.Room.rests → IsReadOf g.B.Room.shards l.caller.pass.seen l.flow.fresh l.flow.sets l.flow.seen;
+  reason : g.B.Room.rests → ReadHasReason l.told l.flow.fresh l.caller.pass.seen l.caller.pass.horizon l.flow.seen;
 }

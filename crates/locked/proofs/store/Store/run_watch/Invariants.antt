@@ -9,7 +9,7 @@ invariant-loop g l = record {
   limit : l.flow.limit ≡ l.initial.flow.limit;
   names : l.flow.namespaces ≡ l.initial.flow.namespaces;
   rests : l.flow.seen.awaited ≡ None;
-  later : IsLater l.initial.caller l.caller;
-  held : g.B.Room.rests → IsWatchOf l.flow.cursor l.flow.limit l.flow.namespaces (length l.initial.caller.seen) l.caller.seen l.flow.seen;
-  reason : g.B.Room.rests → WatchHasReason l.told l.flow.cursor l.caller.seen l.caller.horizon l.flow.seen;
+  later : IsLater l.initial.caller.pass l.caller.pass;
+  held : g.B.Room.rests → IsWatchOf l.flow.cursor l.flow.limit l.flow.namespaces (length l.initial.caller.pass.seen) l.caller.pass.seen l.flow.seen;
+  reason : g.B.Room.rests → WatchHasReason l.told l.flow.cursor l.caller.pass.seen l.caller.pass.horizon l.flow.seen;
 }

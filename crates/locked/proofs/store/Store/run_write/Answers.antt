@@ -9,8 +9,8 @@ loop-init g c = record {
   runs = (tt, tt);
   of = c.requires.of;
   rests = c.requires.rests;
-  later = later_self c.args.pass.now;
-  known = more_self c.args.tried.now;
+  later = later_self c.args.caller.now.pass;
+  known = more_self c.args.caller.now.tried;
   held = λ rests asked above le is. is;
   told = λ is. is;
 }
@@ -19,7 +19,7 @@ pub write_turn-requires-clause-held : goal.write_turn-requires-clause-held
 write_turn-requires-clause-held g c rests =
     let was = c.loop.invariant in
     let some = c.requires.asked in
-    let before = length c.args.pass.now.seen in
+    let before = length c.args.caller.now.pass.seen in
     (some.0, before, was.held rests some.0 before (omega (arith)) some.1)
 
 pub write_turn-requires-clause-runs : goal.write_turn-requires-clause-runs
@@ -29,13 +29,13 @@ pub loop-preserved : goal.loop-preserved
 loop-preserved g c =
     let was = c.loop.invariant in
     let turn = c.write_turn.ensures in
-    let within = prefix_length c.args.pass.now.seen c.loop.pass.seen was.later.seen in
+    let within = prefix_length c.args.caller.now.pass.seen c.loop.caller.pass.seen was.later.seen in
     record {
       runs = (tt, tt);
       of = turn.of;
       rests = turn.rests;
-      later = later_on c.args.pass.now c.loop.pass c.write_turn.new.pass was.later turn.later;
-      known = more_on c.args.tried.now c.loop.tried c.write_turn.new.tried was.known turn.known;
+      later = later_on c.args.caller.now.pass c.loop.caller.pass c.write_turn.new.caller.pass was.later turn.later;
+      known = more_on c.args.caller.now.tried c.loop.caller.tried c.write_turn.new.caller.tried was.known turn.known;
       held = λ rests asked above le is. turn.held rests asked above (omega (arith, le, within)) (was.held rests asked above le is);
       told = λ is. turn.told (was.told is);
     }

@@ -1,5 +1,5 @@
 use Rattle.std.proofs.Common.{◌∙◌, inl, Some, length, ap, arith, subst, sym}
-use Rattle.locked.proofs.Words.{Entry, IsKnownWriteOf, IsTried, Known, WriteFlowValue}
+use Rattle.locked.proofs.Words.{IsKnownWriteOf, IsTried, WriteFlowValue}
 use Rattle.commit_flow.specs.declared.end.WriteEnd.{WriteEnd}
 use Rattle.flow_ties.proofs.SeenWrites.{writes_begin}
 use Rattle.locked.proofs.WriteTurns.{not_refused_yet}
@@ -7,18 +7,17 @@ use Rattle.locked.proofs.store.Store.write.Goals as goal
 
 pub run_write-flow-requires-clause-asked : goal.run_write-flow-requires-clause-asked
 run_write-flow-requires-clause-asked g c =
-    let seen = c.caller.inside.pass.seen in
-    let tried = c.caller.inside.tried.seen in
+    let seen = c.args.caller.now.pass.seen in
+    let tried = c.args.caller.now.tried.seen in
     (c.args.write, subst (IsKnownWriteOf tried c.args.write (length seen) seen) (sym (ap (λ (f : WriteFlowValue). f.seen) c.in-Ok.ensures.ok)) (writes_begin (IsTried tried) c.args.write (length seen) seen))
 
 pub returns-clause-wrote : goal.returns-clause-wrote
 returns-clause-wrote g c rests place is =
-    let seen = c.caller.inside.pass.seen in
-    let above = length c.args.caller.now.seen in
-    let tried = c.caller.inside.tried.seen in
-    let same = ap (λ (k : Known Entry). length k.seen) c.caller.view_is in
+    let seen = c.args.caller.now.pass.seen in
+    let above = length seen in
+    let tried = c.args.caller.now.tried.seen in
     let begins = subst (IsKnownWriteOf tried c.args.write above seen) (sym (ap (λ (f : WriteFlowValue). f.seen) c.in-Ok.ensures.ok)) (writes_begin (IsTried tried) c.args.write above seen) in
-    let so_far = c.run_write-flow.ensures.held rests c.args.write above (omega (arith, same)) begins in
+    let so_far = c.run_write-flow.ensures.held rests c.args.write above (omega arith) begins in
     so_far.written place (sym c.in-Some.ensures ∙ ap (λ (e : WriteEnd). Some e) is)
 
 pub returns-clause-refused : goal.returns-clause-refused

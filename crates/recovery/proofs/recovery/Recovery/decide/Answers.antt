@@ -18,7 +18,7 @@ Index = BTreeMap Tuple LastChange
 abbrev told : Option Index → Option (Tuple → Option LastChange)
 told o = option_map (λ m t. get tuple_cmp m t) o
 
--- an index of the log, where one is kept, is one of the log with the write behind it
+-- an index of the log, if one is kept, is one of the log with the write after it
 kept_more : (base place : ℕ) (log : List Entry) (w : Entry) (before after : Option Index) → place ≡ base + length log + 1 → IfSome (told before) (λ f. AreLatestFrom (base + 1) f log)
     → MatchOption before (after ≡ None) (λ old. IfSome after (λ new. (t : Tuple) → get tuple_cmp new t ≡ last_change place w.changes t (get tuple_cmp old t)))
     → IfSome (told after) (λ f. AreLatestFrom (base + 1) f (log ++ w ∷ []))
@@ -29,7 +29,7 @@ kept_more base place log w (Some old) (Some new) next was entered = λ t.
     ∙ ap (λ (n : ℕ). last_change n w.changes t (latest_from (base + 1) log t None)) (let e : place ≡ base + 1 + length log = omega (arith, next) in e)
     ∙ sym (latest_more (base + 1) t w log None)
 
--- one decision more, entered at its place
+-- one more decision, entered at its place
 recovered_more : (old new : LedgerValue) (before after : Option Index) (horizon epoch place : ℕ) (w : Entry) → IsRecovered old (told before) horizon epoch
     → new ≡ record old { log = old.log ++ w ∷ []; awaited = None } → place ≡ old.base + length old.log + 1
     → MatchOption before (after ≡ None) (λ o. IfSome after (λ n. (t : Tuple) → get tuple_cmp n t ≡ last_change place w.changes t (get tuple_cmp o t)))

@@ -1,5 +1,5 @@
 use Rattle.std.proofs.Common.{rules}
 use Rattle.replay.proofs.memory.Memory.at.Goals as goal
 
-pub returns : goal.returns
-returns c = search rules
+pub returns-clause-rows : goal.returns-clause-rows
+returns-clause-rows c = search rules

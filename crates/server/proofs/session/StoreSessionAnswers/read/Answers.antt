@@ -3,4 +3,4 @@ use Rattle.server.proofs.session.StoreSessionAnswers.read.Goals as goal
 
 pub returns-in-Answered : goal.returns-in-Answered
 returns-in-Answered g c =
-    what_is_found_answers _ c.self.inside.caller _ _ c.self.view_is _ _ c.read-end.ensures.caller (λ rests. c.in-Answered.ensures.answer rests)
+    what_is_found_answers _ c.self.inside.caller.pass _ _ c.self.view_is _ _ c.read-end.ensures.caller (λ rests. c.in-Answered.ensures.answer rests)

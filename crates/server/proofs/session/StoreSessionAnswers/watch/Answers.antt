@@ -9,5 +9,5 @@ use Rattle.server.proofs.session.StoreSessionAnswers.watch.Goals as goal
 pub returns-in-Answered : goal.returns-in-Answered
 returns-in-Answered g c =
     let listed = Ok (answer.Events (record { heartbeat = c.in-Answered.heartbeat; events = c.in-Answered.events })) in
-    subst (λ (limit : ℕ). Answered g.B.Room.rests c.args.self.now c.watch-end.new.caller (requests.Watch c.args.from limit c.args.namespaces) listed) c.from-limit.ensures
-    (what_is_found_answers _ c.self.inside.caller _ _ c.self.view_is _ _ c.watch-end.ensures.caller (λ rests. c.in-Answered.ensures.lists rests))
+    subst (λ (limit : ℕ). Answered g.B.Room.rests c.args.self.now c.watch-end.new.caller.pass (requests.Watch c.args.from limit c.args.namespaces) listed) c.from-limit.ensures
+    (what_is_found_answers _ c.self.inside.caller.pass _ _ c.self.view_is _ _ c.watch-end.ensures.caller (λ rests. c.in-Answered.ensures.lists rests))

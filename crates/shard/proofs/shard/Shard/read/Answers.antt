@@ -14,5 +14,5 @@ returns-in-Ok-clause-rows g c = λ ts up is.
     let same : c.in-Ok.tuples.items ≡ ts.items = cc in (
       omega (arith, now.learned, c.if-learned-place.false, c.learned.ensures),
       omega (arith, now.horizon, c.if-place-horizon.false, c.horizon.ensures),
-      subst (λ (l : List Tuple). IsSelection (there_at (memory c.args.self.now).rows c.args.place) c.args.set.now l) same (selection_alike now.rows c.args.place c.args.set.now c.in-Ok.tuples.items c.in-Ok.ensures),
+      subst (λ (l : List Tuple). IsSelection (there_at (memory c.args.self.now).rows c.args.place) c.args.set.now l) same (selection_alike now.rows c.args.place c.args.set.now c.in-Ok.tuples.items c.in-Ok.ensures.rows),
     )

@@ -15,4 +15,4 @@ invariant_of-self g c = let inv = c.self.invariant in let e = c.share.ensures in
 pub returns-clause-tied : goal.returns-clause-tied
 returns-clause-tied g c rests = let inv = c.self.invariant in let e = c.share.ensures in
     later_is_tied g.D.Device.state g.D.Device.honest g.B.Room.store g.B.Room.shards c.self.inside.me.node c.self.inside.node c.self.inside.pass c.share.new.pass (inv.4 rests)
-    (record { table = e.same.1 ∙ c.requires.own.1 ∙ sym inv.0; seen = e.other.0; horizon = omega (arith, e.horizon.1) })
+    (record { table = e.same.1 ∙ c.pass.invariant ∙ sym inv.0; seen = e.other.0; horizon = omega (arith, e.horizon.1) })

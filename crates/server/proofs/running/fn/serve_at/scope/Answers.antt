@@ -5,6 +5,7 @@ use Rattle.std.proofs.MapsCrossingOver.{crosses as sets_cross}
 use Rattle.atomic_table.proofs.shared.Seat.TheSendSync as seat
 use Rattle.atomic_table.proofs.shared.Shared.TheSendSync as shared
 use Rattle.locked.proofs.Shared.{caller_send, lease_send, lease_sync, store_sync}
+use Rattle.server.proofs.Crossing.{session_send}
 use Rattle.server.proofs.running.fn.serve_at.scope.Goals as goal
 
 pub spawn-kept-requires-send-F : goal.spawn-kept-requires-send-F
@@ -27,4 +28,4 @@ serve_on-served-requires-send-A g c κs within =
     let room_read = bounds.3 in
     let gate = bounds.4 in
     let runtime = bounds.5 in
-    search (store_sync, caller_send, sendable, crosses, maps_cross, sets_cross) depth 400 fits 50000
+    search (session_send, sendable) depth 400 fits 50000
