@@ -37,9 +37,7 @@ fn participants(entry: &Entry, shards: u8) -> u64 {
     changed.chain(conditioned).fold(0, |bits, tuple| bits | 1 << shard_of(&tuple.object, shards))
 }
 
-struct Intent {
-    entry: Entry,
-}
+struct Intent(Entry);
 
 struct Vote {
     id: WriteId,
@@ -47,9 +45,9 @@ struct Vote {
 }
 
 fn votes_match(shards: u8, intent: &Intent, votes: &[Vote]) -> bool {
-    let mut missing = participants(&intent.entry, shards);
+    let mut missing = participants(&intent.0, shards);
     for vote in votes {
-        if vote.id != intent.entry.id || vote.shard >= shards || missing & 1 << vote.shard == 0 {
+        if vote.id != intent.0.id || vote.shard >= shards || missing & 1 << vote.shard == 0 {
             return false;
         }
         missing &= !(1 << vote.shard);
@@ -66,17 +64,13 @@ struct Shard {
 
 impl Shard {
     fn vote(&mut self, intent: &Intent) -> Option<Vote> {
-        for change in &intent.entry.changes {
-            if !self.held.insert(change.tuple().clone()) {
-                return None;
-            }
-        }
-        let part = copied(&intent.entry);
-        if !self.journal.stage(&Record::Prepare(part)) {
+        let Intent(entry) = intent;
+        let is_held = !entry.changes.iter().all(|change| self.held.insert(change.tuple().clone()));
+        if is_held || !self.journal.stage(&Record::Prepare(copied(entry))) {
             return None;
         }
         self.journal.flush();
-        Some(Vote { id: intent.entry.id, shard: 0 })
+        Some(Vote { id: entry.id, shard: 0 })
     }
 }
 
@@ -148,6 +142,8 @@ struct Recovery {
 impl Recovery {
     fn replay(&mut self, record: Record) -> Option<()> {
         match record {
+            Record::Epoch { epoch, .. } => self.epoch = epoch,
+            Record::Horizon(place) => self.horizon = place,
             Record::Decision { place, entry } => {
                 let is_next = place == self.ledger.end() + 1 && !self.ledger.places.contains_key(&entry.id);
                 if !is_next || !entry.conditions.iter().all(|condition| holds(&self.latest, condition)) {
@@ -158,18 +154,10 @@ impl Recovery {
                     self.latest.insert(change.tuple().clone(), LastChange { place, is_there });
                 }
                 self.ledger.push(entry);
-                Some(())
             }
-            Record::Epoch { epoch, .. } => {
-                self.epoch = epoch;
-                Some(())
-            }
-            Record::Horizon(place) => {
-                self.horizon = place;
-                Some(())
-            }
-            _ => None,
+            _ => return None,
         }
+        Some(())
     }
 }
 
@@ -191,48 +179,34 @@ impl Coordinator {
         if disk.seen.len() <= 1 {
             disk.make();
         }
-        let (so_far, end) = replayed(&disk)?;
+        let (Recovery { ledger, epoch, horizon, .. }, end) = replayed(&disk)?;
         let mut journal = Journal::over(disk, end);
-        let epoch = so_far.epoch + 1;
+        let (epoch, kept) = (epoch + 1, ledger.end());
         journal.stage(&Record::Epoch { epoch, store: 1, shards: SHARDS, node: COORDINATOR });
         journal.flush();
-        let kept = so_far.ledger.end();
-        Some(Coordinator {
-            journal,
-            epoch,
-            open_numbers: Vec::new(),
-            given: 0,
-            ledger: so_far.ledger,
-            kept,
-            horizon: so_far.horizon,
-        })
+        Some(Coordinator { journal, epoch, open_numbers: Vec::new(), given: 0, ledger, kept, horizon })
     }
 
     fn begin(&mut self, write: Write) -> Option<Intent> {
-        for condition in &write.conditions {
-            if let Want::NotAfter(place) = condition.want {
-                if place > self.ledger.end() || place < self.horizon {
-                    return None;
-                }
-            }
-        }
-        if self.open_numbers.len() >= MAX_OPEN || self.given >= MAX_NUMBER {
+        let known = self.horizon..=self.ledger.end();
+        let is_known = |condition: &Condition| !matches!(condition.want, Want::NotAfter(place) if !known.contains(&place));
+        if !write.conditions.iter().all(is_known) || self.open_numbers.len() >= MAX_OPEN || self.given >= MAX_NUMBER {
             return None;
         }
         self.given += 1;
         self.open_numbers.push(self.given);
         let id = WriteId { epoch: self.epoch, number: self.given };
-        Some(Intent { entry: Entry { id, changes: write.changes, conditions: write.conditions } })
+        Some(Intent(Entry { id, changes: write.changes, conditions: write.conditions }))
     }
 
-    fn decide(&mut self, intent: Intent, votes: Vec<Vote>) -> Option<Decided> {
-        let id = intent.entry.id;
+    fn decide(&mut self, Intent(entry): Intent, votes: Vec<Vote>) -> Option<Decided> {
+        let id = entry.id;
         if id.epoch != self.epoch || !self.open_numbers.contains(&id.number) || self.ledger.places.contains_key(&id) {
             return None;
         }
         drop(votes);
         let place = self.ledger.end() + 1;
-        let decision = Record::Decision { place, entry: intent.entry };
+        let decision = Record::Decision { place, entry };
         if !self.journal.stage(&decision) {
             return None;
         }

@@ -97,14 +97,19 @@ pub fn put_u64(out: &mut Vec<u8>, number: u64) {
     out.extend_from_slice(&number.to_be_bytes());
 }
 
-pub fn put_object(out: &mut Vec<u8>, object: &Object) {
-    put_text(out, &object.namespace);
-    put_text(out, &object.id);
+pub fn put_id(out: &mut Vec<u8>, id: &WriteId) {
+    put_u64(out, id.epoch);
+    put_u64(out, id.number);
 }
 
-pub fn put_tuple(out: &mut Vec<u8>, tuple: &Tuple) {
-    put_object(out, &tuple.object);
-    put_text(out, &tuple.relation);
+fn put_userset(out: &mut Vec<u8>, object: &Object, relation: &[u8]) {
+    put_text(out, &object.namespace);
+    put_text(out, &object.id);
+    put_text(out, relation);
+}
+
+fn put_tuple(out: &mut Vec<u8>, tuple: &Tuple) {
+    put_userset(out, &tuple.object, &tuple.relation);
     match &tuple.user {
         User::Id(id) => {
             out.push(1);
@@ -112,18 +117,12 @@ pub fn put_tuple(out: &mut Vec<u8>, tuple: &Tuple) {
         }
         User::Set { object, relation } => {
             out.push(2);
-            put_object(out, object);
-            put_text(out, relation);
+            put_userset(out, object, relation);
         }
     }
 }
 
-pub fn put_id(out: &mut Vec<u8>, id: &WriteId) {
-    put_u64(out, id.epoch);
-    put_u64(out, id.number);
-}
-
-pub fn put_entry(out: &mut Vec<u8>, entry: &Entry) {
+fn put_entry(out: &mut Vec<u8>, entry: &Entry) {
     put_id(out, &entry.id);
     out.push(entry.changes.len() as u8);
     for change in &entry.changes {
@@ -145,14 +144,22 @@ pub fn put_entry(out: &mut Vec<u8>, entry: &Entry) {
 }
 
 impl Record {
-    pub fn encode(&self, out: &mut Vec<u8>) {
+    fn kind(&self) -> u8 {
         match self {
-            Record::Prepare(entry) => {
-                out.push(1);
-                put_entry(out, entry);
-            }
+            Record::Prepare(_) => 1,
+            Record::Learned { .. } => 2,
+            Record::Dropped(_) => 3,
+            Record::Epoch { .. } => 4,
+            Record::Decision { .. } => 5,
+            Record::Horizon(_) => 6,
+        }
+    }
+
+    pub fn encode(&self, out: &mut Vec<u8>) {
+        out.push(self.kind());
+        match self {
+            Record::Prepare(entry) => put_entry(out, entry),
             Record::Learned { to, parts } => {
-                out.push(2);
                 put_u64(out, *to);
                 out.extend_from_slice(&(parts.len() as u16).to_be_bytes());
                 for part in parts {
@@ -160,199 +167,158 @@ impl Record {
                     put_u64(out, part.place);
                 }
             }
-            Record::Dropped(id) => {
-                out.push(3);
-                put_id(out, id);
-            }
+            Record::Dropped(id) => put_id(out, id),
             Record::Epoch { epoch, store, shards, node } => {
-                out.push(4);
                 put_u64(out, *epoch);
                 put_u64(out, *store);
                 out.extend_from_slice(&[*shards, *node]);
             }
             Record::Decision { place, entry } => {
-                out.push(5);
                 put_u64(out, *place);
                 put_entry(out, entry);
             }
-            Record::Horizon(place) => {
-                out.push(6);
-                put_u64(out, *place);
-            }
+            Record::Horizon(place) => put_u64(out, *place),
         }
     }
 }
 
 // ---- reading
 
-pub fn byte_of(bytes: &[u8]) -> Option<(u8, &[u8])> {
-    bytes.split_first().map(|(byte, rest)| (*byte, rest))
+pub fn is_name(text: &[u8]) -> bool {
+    let is_byte = |byte: &u8| byte.is_ascii_lowercase() || byte.is_ascii_digit() || *byte == b'_';
+    !text.is_empty() && text.len() <= 64 && text.iter().all(is_byte)
 }
 
-pub fn u16_of(bytes: &[u8]) -> Option<(u16, &[u8])> {
-    let (front, rest) = bytes.split_first_chunk::<2>()?;
-    Some((u16::from_be_bytes(*front), rest))
+pub fn is_id(text: &[u8]) -> bool {
+    let is_byte = |byte: &u8| byte.is_ascii_graphic() && !matches!(byte, b'#' | b'@' | b':' | b'+');
+    !text.is_empty() && text.len() <= 128 && text.iter().all(is_byte)
 }
 
-pub fn u64_of(bytes: &[u8]) -> Option<(u64, &[u8])> {
-    let (front, rest) = bytes.split_first_chunk::<8>()?;
-    Some((u64::from_be_bytes(*front), rest))
-}
+/// The bytes that are still to be read.
+pub struct Reader<'a>(&'a [u8]);
 
-pub fn positive_of(bytes: &[u8]) -> Option<(u64, &[u8])> {
-    u64_of(bytes).filter(|(number, _)| *number >= 1)
-}
+impl Reader<'_> {
+    fn take<const COUNT: usize>(&mut self) -> Option<[u8; COUNT]> {
+        let (front, rest) = self.0.split_first_chunk()?;
+        self.0 = rest;
+        Some(*front)
+    }
 
-pub fn text_of(bytes: &[u8], most: usize, is_byte: fn(u8) -> bool) -> Option<(Vec<u8>, &[u8])> {
-    let (len, rest) = byte_of(bytes)?;
-    let (text, rest) = rest.split_at_checked(usize::from(len))?;
-    let fits = !text.is_empty() && text.len() <= most && text.iter().all(|byte| is_byte(*byte));
-    fits.then(|| (text.to_vec(), rest))
-}
+    fn byte(&mut self) -> Option<u8> {
+        self.take().map(|[byte]| byte)
+    }
 
-pub fn is_name_byte(byte: u8) -> bool {
-    byte.is_ascii_lowercase() || byte.is_ascii_digit() || byte == b'_'
-}
+    fn u16(&mut self) -> Option<u16> {
+        self.take().map(u16::from_be_bytes)
+    }
 
-pub fn is_id_byte(byte: u8) -> bool {
-    byte.is_ascii_graphic() && !matches!(byte, b'#' | b'@' | b':' | b'+')
-}
+    fn u64(&mut self) -> Option<u64> {
+        self.take().map(u64::from_be_bytes)
+    }
 
-pub fn name_of(bytes: &[u8]) -> Option<(Vec<u8>, &[u8])> {
-    text_of(bytes, 64, is_name_byte)
-}
+    fn text(&mut self, fits: impl Fn(&[u8]) -> bool) -> Option<Vec<u8>> {
+        let size = usize::from(self.byte()?);
+        let (text, rest) = self.0.split_at_checked(size)?;
+        self.0 = rest;
+        fits(text).then(|| text.to_vec())
+    }
 
-pub fn id_of(bytes: &[u8]) -> Option<(Vec<u8>, &[u8])> {
-    text_of(bytes, 128, is_id_byte)
-}
+    fn object(&mut self) -> Option<Object> {
+        Some(Object { namespace: self.text(is_name)?, id: self.text(is_id)? })
+    }
 
-pub fn object_of(bytes: &[u8]) -> Option<(Object, &[u8])> {
-    let (namespace, rest) = name_of(bytes)?;
-    let (id, rest) = id_of(rest)?;
-    Some((Object { namespace, id }, rest))
-}
-
-pub fn user_of(bytes: &[u8]) -> Option<(User, &[u8])> {
-    let (kind, rest) = byte_of(bytes)?;
-    match kind {
-        1 => id_of(rest).map(|(id, rest)| (User::Id(id), rest)),
-        2 => {
-            let (object, rest) = object_of(rest)?;
-            let (relation, rest) = name_of(rest)?;
-            Some((User::Set { object, relation }, rest))
+    fn user(&mut self) -> Option<User> {
+        match self.byte()? {
+            1 => self.text(is_id).map(User::Id),
+            2 => Some(User::Set { object: self.object()?, relation: self.text(is_name)? }),
+            _ => None,
         }
-        _ => None,
+    }
+
+    fn tuple(&mut self) -> Option<Tuple> {
+        Some(Tuple { object: self.object()?, relation: self.text(is_name)?, user: self.user()? })
+    }
+
+    fn change(&mut self) -> Option<Change> {
+        match self.byte()? {
+            1 => self.tuple().map(Change::Touch),
+            2 => self.tuple().map(Change::Delete),
+            _ => None,
+        }
+    }
+
+    fn condition(&mut self) -> Option<Condition> {
+        let tuple = self.tuple()?;
+        let want = match self.byte()? {
+            1 => Want::NotAfter(self.u64()?),
+            2 => Want::Exists,
+            3 => Want::Absent,
+            _ => return None,
+        };
+        Some(Condition { tuple, want })
+    }
+
+    fn many<T>(&mut self, count: usize, item: impl Fn(&mut Self) -> Option<T>) -> Option<Vec<T>> {
+        (0..count).map(|_| item(self)).collect()
+    }
+
+    fn write_id(&mut self) -> Option<WriteId> {
+        let id = WriteId { epoch: self.u64()?, number: self.u64()? };
+        (id.epoch >= 1 && id.number >= 1).then_some(id)
+    }
+
+    fn entry(&mut self) -> Option<Entry> {
+        let id = self.write_id()?;
+        let count = self.byte().filter(|count| *count <= 64)?;
+        let changes = self.many(usize::from(count), Self::change)?;
+        let count = self.byte().filter(|count| *count <= 16)?;
+        let conditions = self.many(usize::from(count), Self::condition)?;
+        let is_distinct = are_distinct(&changes, Change::tuple) && are_distinct(&conditions, |condition| &condition.tuple);
+        is_distinct.then_some(Entry { id, changes, conditions })
+    }
+
+    fn learned(&mut self) -> Option<Record> {
+        let to = self.u64()?;
+        let count = self.u16().filter(|count| *count <= 256)?;
+        let parts = self.many(usize::from(count), |bytes| Some(Part { id: bytes.write_id()?, place: bytes.u64()? }))?;
+        let rises = parts.windows(2).all(|two| two[0].place < two[1].place);
+        let ends = parts.last().is_none_or(|part| part.place <= to);
+        (rises && ends).then_some(Record::Learned { to, parts })
+    }
+
+    fn epoch(&mut self) -> Option<Record> {
+        let (epoch, store) = (self.u64()?, self.u64()?);
+        let shards = self.byte().filter(|shards| (1..=64).contains(shards))?;
+        Some(Record::Epoch { epoch, store, shards, node: self.byte()? })
+    }
+
+    fn record(&mut self) -> Option<Record> {
+        match self.byte()? {
+            1 => self.entry().filter(|entry| !entry.changes.is_empty() || !entry.conditions.is_empty()).map(Record::Prepare),
+            2 => self.learned(),
+            3 => self.write_id().map(Record::Dropped),
+            4 => self.epoch(),
+            5 => {
+                let place = self.u64()?;
+                let entry = self.entry().filter(|entry| !entry.changes.is_empty())?;
+                Some(Record::Decision { place, entry })
+            }
+            6 => self.u64().map(Record::Horizon),
+            _ => None,
+        }
     }
 }
 
-pub fn tuple_of(bytes: &[u8]) -> Option<(Tuple, &[u8])> {
-    let (object, rest) = object_of(bytes)?;
-    let (relation, rest) = name_of(rest)?;
-    let (user, rest) = user_of(rest)?;
-    Some((Tuple { object, relation, user }, rest))
-}
-
-pub fn change_of(bytes: &[u8]) -> Option<(Change, &[u8])> {
-    let (kind, rest) = byte_of(bytes)?;
-    match kind {
-        1 => tuple_of(rest).map(|(tuple, rest)| (Change::Touch(tuple), rest)),
-        2 => tuple_of(rest).map(|(tuple, rest)| (Change::Delete(tuple), rest)),
-        _ => None,
-    }
-}
-
-pub fn condition_of(bytes: &[u8]) -> Option<(Condition, &[u8])> {
-    let (tuple, rest) = tuple_of(bytes)?;
-    let (kind, rest) = byte_of(rest)?;
-    let (want, rest) = match kind {
-        1 => u64_of(rest).map(|(place, rest)| (Want::NotAfter(place), rest))?,
-        2 => (Want::Exists, rest),
-        3 => (Want::Absent, rest),
-        _ => return None,
-    };
-    Some((Condition { tuple, want }, rest))
-}
-
-pub fn many_of<T>(count: usize, bytes: &[u8], item_of: fn(&[u8]) -> Option<(T, &[u8])>) -> Option<(Vec<T>, &[u8])> {
-    let mut items = Vec::new();
-    let mut rest = bytes;
-    for _ in 0..count {
-        let (item, after) = item_of(rest)?;
-        items.push(item);
-        rest = after;
-    }
-    Some((items, rest))
-}
-
-pub fn are_distinct<T>(items: &[T], tuple: fn(&T) -> &Tuple) -> bool {
+fn are_distinct<T>(items: &[T], tuple: impl Fn(&T) -> &Tuple) -> bool {
     (0..items.len()).all(|i| items[i + 1..].iter().all(|other| tuple(&items[i]) != tuple(other)))
 }
 
-pub fn write_id_of(bytes: &[u8]) -> Option<(WriteId, &[u8])> {
-    let (epoch, rest) = positive_of(bytes)?;
-    let (number, rest) = positive_of(rest)?;
-    Some((WriteId { epoch, number }, rest))
-}
-
-pub fn entry_of(bytes: &[u8]) -> Option<(Entry, &[u8])> {
-    let (id, rest) = write_id_of(bytes)?;
-    let (count, rest) = byte_of(rest).filter(|(count, _)| *count <= 64)?;
-    let (changes, rest) = many_of(usize::from(count), rest, change_of)?;
-    let (count, rest) = byte_of(rest).filter(|(count, _)| *count <= 16)?;
-    let (conditions, rest) = many_of(usize::from(count), rest, condition_of)?;
-    let is_distinct = are_distinct(&changes, Change::tuple) && are_distinct(&conditions, |condition| &condition.tuple);
-    is_distinct.then_some((Entry { id, changes, conditions }, rest))
-}
-
-pub fn part_of(bytes: &[u8]) -> Option<(Part, &[u8])> {
-    let (id, rest) = write_id_of(bytes)?;
-    let (place, rest) = u64_of(rest)?;
-    Some((Part { id, place }, rest))
-}
-
-pub fn learned_of(bytes: &[u8]) -> Option<(Record, &[u8])> {
-    let (to, rest) = u64_of(bytes)?;
-    let (count, rest) = u16_of(rest).filter(|(count, _)| *count <= 256)?;
-    let (parts, rest) = many_of(usize::from(count), rest, part_of)?;
-    let rises = parts.windows(2).all(|two| two[0].place < two[1].place);
-    let ends = parts.last().is_none_or(|part| part.place <= to);
-    (rises && ends).then_some((Record::Learned { to, parts }, rest))
-}
-
-pub fn epoch_of(bytes: &[u8]) -> Option<(Record, &[u8])> {
-    let (epoch, rest) = u64_of(bytes)?;
-    let (store, rest) = u64_of(rest)?;
-    let (shards, rest) = byte_of(rest).filter(|(shards, _)| (1..=64).contains(shards))?;
-    let (node, rest) = byte_of(rest)?;
-    Some((Record::Epoch { epoch, store, shards, node }, rest))
-}
-
-pub fn record_of(bytes: &[u8]) -> Option<(Record, &[u8])> {
-    let (kind, rest) = byte_of(bytes)?;
-    match kind {
-        1 => {
-            let (entry, rest) = entry_of(rest)?;
-            let has_part = !entry.changes.is_empty() || !entry.conditions.is_empty();
-            has_part.then_some((Record::Prepare(entry), rest))
-        }
-        2 => learned_of(rest),
-        3 => write_id_of(rest).map(|(id, rest)| (Record::Dropped(id), rest)),
-        4 => epoch_of(rest),
-        5 => {
-            let (place, rest) = u64_of(rest)?;
-            let (entry, rest) = entry_of(rest)?;
-            (!entry.changes.is_empty()).then_some((Record::Decision { place, entry }, rest))
-        }
-        6 => u64_of(rest).map(|(place, rest)| (Record::Horizon(place), rest)),
-        _ => None,
-    }
-}
-
 pub fn decode_batch(bytes: &[u8]) -> Option<Vec<Record>> {
-    let (_, rest) = byte_of(bytes).filter(|(version, _)| *version == VERSION)?;
-    let (count, rest) = u16_of(rest).filter(|(count, _)| *count >= 1)?;
-    let (records, rest) = many_of(usize::from(count), rest, record_of)?;
-    rest.is_empty().then_some(records)
+    let mut reader = Reader(bytes);
+    reader.byte().filter(|version| *version == VERSION)?;
+    let count = reader.u16().filter(|count| *count >= 1)?;
+    let records = reader.many(usize::from(count), Reader::record)?;
+    reader.0.is_empty().then_some(records)
 }
 
 // ---- a disk in memory that keeps its calls, a gated log and a journal over it

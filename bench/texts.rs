@@ -1,7 +1,7 @@
 // The measure of crates/bench/src/texts.rt in plain Rust: the same grammar, texts and passes.
 pub mod log;
 
-use log::{Object, Tuple, User, is_id_byte, is_name_byte, run, tell};
+use log::{Object, Tuple, User, is_id, is_name, run, tell};
 use std::time::Instant;
 
 const TEXTS: u64 = 1000;
@@ -12,13 +12,11 @@ fn split_first(text: &[u8], mark: u8) -> Option<(&[u8], &[u8])> {
 }
 
 pub fn name(bytes: &[u8]) -> Option<Vec<u8>> {
-    let fits = !bytes.is_empty() && bytes.len() <= 64 && bytes.iter().all(|b| is_name_byte(*b));
-    fits.then(|| bytes.to_vec())
+    is_name(bytes).then(|| bytes.to_vec())
 }
 
 fn id(bytes: &[u8]) -> Option<Vec<u8>> {
-    let fits = !bytes.is_empty() && bytes.len() <= 128 && bytes.iter().all(|b| is_id_byte(*b));
-    fits.then(|| bytes.to_vec())
+    is_id(bytes).then(|| bytes.to_vec())
 }
 
 pub fn object_of(text: &[u8]) -> Option<Object> {
@@ -32,11 +30,9 @@ fn userset_of(text: &[u8]) -> Option<(Object, Vec<u8>)> {
 }
 
 pub fn user_of(text: &[u8]) -> Option<User> {
-    if text.contains(&b':') {
-        let (object, relation) = userset_of(text)?;
-        Some(User::Set { object, relation })
-    } else {
-        Some(User::Id(id(text)?))
+    match text.contains(&b':') {
+        true => userset_of(text).map(|(object, relation)| User::Set { object, relation }),
+        false => id(text).map(User::Id),
     }
 }
 

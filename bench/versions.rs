@@ -70,16 +70,8 @@ fn is_there_at(rows: &[Row], place: u64) -> bool {
 
 // The first tuples from this one on that meet the test, where they are there.
 fn kept_from(versions: &Versions, place: u64, first: Tuple, meets: impl Fn(&Tuple) -> bool) -> Vec<Tuple> {
-    let mut kept = Vec::new();
-    for (tuple, rows) in versions.rows.range(first..) {
-        if !meets(tuple) {
-            break;
-        }
-        if is_there_at(rows, place) {
-            kept.push(tuple.clone());
-        }
-    }
-    kept
+    let those = versions.rows.range(first..).take_while(|(tuple, _)| meets(tuple));
+    those.filter(|(_, rows)| is_there_at(rows, place)).map(|(tuple, _)| tuple.clone()).collect()
 }
 
 fn read_key(versions: &Versions, place: u64, key: &Tuple) -> usize {
@@ -94,16 +86,8 @@ fn read_object(versions: &Versions, place: u64, object: &Object, relation: Optio
 
 fn read_user(versions: &Versions, place: u64, namespace: &[u8], user: &User) -> usize {
     let first = ByUser { namespace: namespace.to_vec(), user: user.clone(), id: b"!".to_vec(), relation: b"0".to_vec() };
-    let mut kept = Vec::new();
-    for named in versions.users.range(first..) {
-        if named.namespace != namespace || named.user != *user {
-            break;
-        }
-        let tuple = named.tuple();
-        if is_there_at(&versions.rows[&tuple], place) {
-            kept.push(tuple);
-        }
-    }
+    let those = versions.users.range(first..).take_while(|named| named.namespace == namespace && named.user == *user);
+    let kept: Vec<_> = those.map(ByUser::tuple).filter(|tuple| is_there_at(&versions.rows[tuple], place)).collect();
     kept.len()
 }
 

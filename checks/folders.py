@@ -1,6 +1,7 @@
 """What programs are asked of stores in folders, and what they answer."""
 import os
 import subprocess
+from pathlib import Path
 
 from judge.lines import token as token_of
 from programs import LIMIT, harness, lines_of, run, zanstore
@@ -57,11 +58,7 @@ def beside(folder, name):
 
 def contents(folder):
     """Each file with its bytes."""
-    found = {}
-    for name in sorted(os.listdir(folder)):
-        with open(os.path.join(folder, name), "rb") as file:
-            found[name] = file.read()
-    return found
+    return {path.name: path.read_bytes() for path in sorted(Path(folder).iterdir())}
 
 
 def empty(folder, *names):

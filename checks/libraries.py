@@ -19,6 +19,11 @@ def built_library(name):
     return path
 
 
+def holding(folder, file, **more):
+    """The environment in which syncs of the folder's files are held, as hold_syncs.c says, once this file is there."""
+    return {"LD_PRELOAD": built_library("hold_syncs"), "HOLD_FOLDER": os.path.realpath(folder), "HOLD_FILE": file, **more}
+
+
 class Refusing:
     """What refuse_allocation.c and this process share, in a file of this folder: which allocation is refused, how many there were since, how many were refused."""
 

@@ -15,6 +15,19 @@ NAME64 = b"a23456789_b23456789_c23456789_d23456789_e23456789_f23456789_g234"
 BEFORE = b"".join(b'{"op":"write","changes":[{"op":"touch","tuple":"doc:p#v@u%d"}]}\n' % n for n in range(1, 6))
 
 
+# One row for each of these texts.
+CHOICE = re.compile(rb"<([^<>]*\|[^<>]*)>")
+
+
+def each_of(row):
+    """The rows for which a row stands."""
+    found = CHOICE.search(row)
+    if not found:
+        return [row]
+    before, behind = row[: found.start()], row[found.end() :]
+    return [one for text in found[1].split(b"|") for one in each_of(before + text + behind)]
+
+
 def repeated(found):
     return b",".join(found[2].replace(b"INDEX", b"%d" % n) for n in range(int(found[1])))
 
@@ -44,8 +57,8 @@ def wanted(answer):
 def rows():
     """For each its answer as it stands there, the bytes to send, and the bytes of the last answer."""
     for row in ROWS.read_bytes().splitlines():
-        if row and not row.startswith(b"#"):
-            answer, line = row.split(b"\t", 1)
+        for one in each_of(row) if row and not row.startswith(b"#") else ():
+            answer, line = one.split(b"\t", 1)
             yield answer, given(line), wanted(answer)
 
 

@@ -1,12 +1,12 @@
 """A client as a process, beside a server and beside one that is made up: what `zanstore call` prints, what it sends and its status are what docs/API.md says."""
 import json
-import os
 import re
 import socket
 import socketserver
 import subprocess
 import threading
 import time
+from pathlib import Path
 
 import programs
 from judge.worlds import must
@@ -15,7 +15,7 @@ from serving.wire import Session, check, delete, read, refusal, token, touch, wa
 from serving.wire import told as told_of
 
 GROUP = "servers"
-PAGE = os.path.join(programs.TOP, "docs", "API.md")
+PAGE = Path(programs.TOP, "docs", "API.md")
 ANN, BOB, LOCK = "doc:readme#viewer@ann", "group:staff#member@bob", "doc:readme#lock@lock"
 AGAIN = (10, 11, 14, 15)
 USAGE = {
@@ -31,12 +31,9 @@ UNKNOWN = "it is unknown whether the write was made: read before you send it aga
 def advised():
     """Each refusal by its number, with its name and what is said of it, as the page has it; that of a check that is full by 0."""
     found = {}
-    with open(PAGE, encoding="utf-8") as page:
-        for line in page:
-            row = re.match(r"\| (\d+) `(\w+)`( of a check)? \| ([^|]*) \|$", line)
-            if row:
-                found[0 if row[3] else int(row[1])] = (row[2], f"{row[1]} {row[2]}: {row[4]}\n")
-    must(sorted(found) == [*range(17)], f"the page has the refusals {[*found]}")
+    for row in re.finditer(r"^\| (\d+) `(\w+)`( of a check)? \| ([^|]*) \|$", PAGE.read_text(), re.MULTILINE):
+        found[0 if row[3] else int(row[1])] = (row[2], f"{row[1]} {row[2]}: {row[4]}\n")
+    assert sorted(found) == [*range(17)]
     return found
 
 
@@ -146,33 +143,20 @@ def test_sent_lines(folder):
     with MadeUp(answers) as server:
         found = called(server.port, lines=[line for line, _ in rows])
         is_called((1, "".join(map(text_of, answers)), f"zanstore: call: line {len(rows)}: {advised()[1][1]}"), found, "lines")
-        for (line, wanted), sent in zip(rows, server.sent, strict=True):
-            must(json.loads(sent) == wanted, f"{line} is sent as {sent}, and not as {wanted}")
-        must(server.sent[-1] == b'{ "any": [1] }\n', f"JSON is sent as {server.sent[-1]}")
+        assert [*map(json.loads, server.sent)] == [wanted for _, wanted in rows]
+        assert server.sent[-1] == b'{ "any": [1] }\n'
 
 
 def test_refused_requests(folder):
-    """what a server refuses, with what to do about it"""
-    say = advised()
-    rows = [
-        (f"write +{ANN} if ?{BOB}", 9),
-        (f"check exact {token(7)} {ANN}", 7),
-        (f"check exact {token(1, 99)} {ANN}", 6),
-        ("check exact Z doc:a#viewer@ann", 5),
-        ('{"op":"other"}', 1),
-    ]
-    wanted = "".join(text_of(refusal(number, say[number][0])) for _, number in rows)
-    why = "".join(f"zanstore: call: line {at}: {say[number][1]}" for at, (_, number) in enumerate(rows, 1))
-    with Server(folder) as server:
-        is_called((1, wanted, why), called(server.port, lines=[line for line, _ in rows]), "refused lines")
-        is_called((1, text_of(refusal(9, say[9][0])), f"zanstore: call: {say[9][1]}"), called(server.port, *rows[0][0].split()), "words")
-
-
-def test_named_causes(folder):
-    """what of a request was refused is named"""
+    """what a server refuses, with what to do about it, or with what of the request was refused"""
     name, of_id = "a name has a-z, 0-9 and _", "an id has printable ASCII but no space, #, @, : or +"
     split = "send several requests; a write that is split is no longer one write"
     rows = [
+        (f"write +{ANN} if ?{BOB}", 9, None),
+        (f"check exact {token(7)} {ANN}", 7, None),
+        (f"check exact {token(1, 99)} {ANN}", 6, None),
+        ("check exact Z doc:a#viewer@ann", 5, None),
+        ('{"op":"other"}', 1, None),
         ("check doc:a#viewer@user:bob", 2, 'the user "user:bob" has a ":" and no "#": a userset is namespace:id#relation'),
         (f"write +{ANN} +doc:a#viewer@Ann@x.org", 2, f"""the user "Ann@x.org" has '@': {of_id}"""),
         (f"write +{ANN} if !Doc:a#viewer@ann", 2, f"""the namespace "Doc" has 'D': {name}"""),
@@ -192,22 +176,21 @@ def test_named_causes(folder):
     ]
     say = advised()
     wanted = "".join(text_of(refusal(number, say[number][0])) for _, number, _ in rows)
-    why = "".join(f"zanstore: call: line {at}: {number} {say[number][0]}: {text}\n" for at, (_, number, text) in enumerate(rows, 1))
+    texts = [f"{number} {say[number][0]}: {text}\n" if text else say[number][1] for _, number, text in rows]
+    why = "".join(f"zanstore: call: line {at}: {text}" for at, text in enumerate(texts, 1))
     with Server(folder) as server:
-        is_called((1, wanted, why), called(server.port, lines=[line for line, _, _ in rows]), "lines with a cause")
+        is_called((1, wanted, why), called(server.port, lines=[line for line, _, _ in rows]), "refused lines")
+        is_called((1, text_of(refusal(9, say[9][0])), f"zanstore: call: {say[9][1]}"), called(server.port, *rows[0][0].split()), "words")
 
 
 def test_each_refusal(folder):
     """each of the sixteen, as the page has it"""
     say = advised()
-    answers = [refusal(number, say[number][0]) for number in range(1, 17)]
-    texts = [say[0 if number == 15 else number][1] for number in range(1, 17)]
-    why = "".join(f"zanstore: call: line {at}: {text}" for at, text in enumerate(texts, 1))
-    with MadeUp([*answers, {"member": True, "zookie": token(1)}]) as server:
-        lines = [f"check {ANN}"] * 17
-        found = called(server.port, lines=lines)
-        is_called((1, "".join(map(text_of, [*answers, {"member": True, "zookie": token(1)}])), why), found, "refusals")
-        must(len(server.sent) == 17, f"{len(server.sent)} lines are sent")
+    answers = [*(refusal(number, say[number][0]) for number in range(1, 17)), answer_to("check")]
+    why = "".join(f"zanstore: call: line {number}: {say[0 if number == 15 else number][1]}" for number in range(1, 17))
+    with MadeUp(answers) as server:
+        is_called((1, "".join(map(text_of, answers)), why), called(server.port, lines=[f"check {ANN}"] * 17), "refusals")
+        assert len(server.sent) == 17
 
 
 def test_repeats(folder):
@@ -219,15 +202,11 @@ def test_repeats(folder):
         with MadeUp([refused, refused, done]) as server:
             found, again = called(server.port, "--retry", "2", "write", f"+{ANN}"), number in AGAIN
             is_called((0, text_of(done), "") if again else (1, text_of(refused), f"zanstore: call: {text}"), found, f"two times {name}")
-            must(len(server.sent) == (3 if again else 1) and len(set(server.sent)) == 1, f"behind {name} is sent {server.sent}")
-    refused = refusal(10, "Busy")
-    with MadeUp([refused] * 4) as server:
-        is_called((1, text_of(refused), f"zanstore: call: {say[10][1]}"), called(server.port, "--retry", "2", "write", f"+{ANN}"), "always busy")
-        must(len(server.sent) == 3, f"{len(server.sent)} lines are sent, and not 3")
-    full = refusal(15, "Full")
-    with MadeUp([full, full]) as server:
-        is_called((1, text_of(full), f"zanstore: call: {say[0][1]}"), called(server.port, "--retry", "2", "check", ANN), "a full check")
-        must(len(server.sent) == 1, f"a check that is full is sent {len(server.sent)} times")
+            assert len(server.sent) == (3 if again else 1) and len(set(server.sent)) == 1, name
+    for refused, text, words, times in ((refusal(10, "Busy"), say[10][1], ("write", f"+{ANN}"), 3), (refusal(15, "Full"), say[0][1], ("check", ANN), 1)):
+        with MadeUp([refused] * 4) as server:
+            is_called((1, text_of(refused), f"zanstore: call: {text}"), called(server.port, "--retry", "2", *words), f"always {refused}")
+            assert len(server.sent) == times
 
 
 def test_follows(folder):
@@ -248,28 +227,26 @@ def test_follows(folder):
             server.kill()
             out, err = child.communicate(timeout=LIMIT)
             guard.cancel()
-            must(child.returncode == 1 and out == "", f"behind the server it prints {out}, and has status {child.returncode}")
-            must(err.startswith("zanstore: call: the connection ended before an answer: ") and "write" not in err, f"says {err}")
+            assert child.returncode == 1 and out == ""
+            assert err.startswith("zanstore: call: the connection ended before an answer: ") and "write" not in err
 
 
 def is_line(child, wanted):
-    line = child.stdout.readline()
-    must(line == text_of(wanted), f"prints {line}, and not {wanted}")
+    assert child.stdout.readline() == text_of(wanted)
 
 
 def test_no_server(folder):
     """an address at which nobody listens, and a connection that ends"""
     port = free_port()
     status, out, err = called(port, "check", ANN)
-    must((status, out) == (1, "") and err.startswith(f"zanstore: call: {HOST}:{port}: no connection: Connection refused"), f"is {(status, out, err)}")
+    assert (status, out) == (1, "") and err.startswith(f"zanstore: call: {HOST}:{port}: no connection: Connection refused")
     ended = "zanstore: call: line 2: the connection ended before an answer: "
     for line, says in ((f"write +{ANN}", f"; {UNKNOWN}\n"), (f"check {ANN}", "\n")):
         answer = answer_to(line)
         with MadeUp([answer, None]) as server:
             status, out, err = called(server.port, "--retry", "3", lines=[line] * 3)
-            must((status, out) == (1, text_of(answer)), f"is {(status, out, err)}")
-            must(err.startswith(ended) and err.endswith(says) and ("unknown" in err) == ("unknown" in says), f"says {err}")
-            must(len(server.sent) == 2, f"{len(server.sent)} lines are sent, and not 2")
+            assert (status, out, len(server.sent)) == (1, text_of(answer), 2)
+            assert err.startswith(ended) and err.endswith(says) and ("unknown" in err) == ("unknown" in says)
 
 
 def test_strangers(folder):
@@ -301,8 +278,8 @@ def test_waits(folder):
             one.connect_ex((HOST, port))
         found = called(port, "--timeout", "1", "check", ANN)
         is_called((1, "", f"zanstore: call: {HOST}:{port}: no connection within the --timeout\n"), found, "no connection in time")
-        status, out, err = called(port, "--timeout", "4", "check", ANN)
-        must(status == 1 and err.startswith(f"zanstore: call: {HOST}:{port}: no connection after 3 s, still waiting\n"), f"is {(status, out, err)}")
+        status, _, err = called(port, "--timeout", "4", "check", ANN)
+        assert status == 1 and err.startswith(f"zanstore: call: {HOST}:{port}: no connection after 3 s, still waiting\n")
         for one in waiting:
             one.close()
 
@@ -323,39 +300,37 @@ def test_bad_lines(folder):
         why = "".join(f"zanstore: call: line {at}: {usage(line, kind)}\n" for at, (line, kind) in enumerate(rows, 1))
         found = called(server.port, lines=[*(line for line, _ in rows), "check a"])
         is_called((1, text_of({"member": True, "zookie": token(1)}), why), found, "bad lines")
-        must(len(server.sent) == 1, f"{len(server.sent)} lines are sent, and not the last alone")
-        found = called(server.port, "check a\ncheck b")
-        is_called((1, "", "zanstore: call: a request is one line\n"), found, "two lines in a word")
+        assert len(server.sent) == 1
+        assert called(server.port, "check a\ncheck b") == (1, "", "zanstore: call: a request is one line\n")
 
 
-def test_command_lines(folder):
-    """status 2 for a bad command line, and help"""
-    for words in ([], ["--retry", "2"], ["a", "--retry"], ["a", "--retry", "x"], ["a", "--retry", "1001"], ["a", "--follow=1"]):
-        status, out, err = run("call", *words)
-        must(status == 2 and not out and err, f"is {(status, out, err)}: {words}")
+def test_command_lines():
+    """status 2 for a bad command line"""
+    store = "--store takes a number from 0 to 4294967295."
     for words, says in (
-        (["a", "--slow", "check", ANN], "'--slow' is not a word of a request; options come before its first word"),
-        (["a", "check", ANN, "--timeout", "3"], "'--timeout' is not a word of a request"),
-        (["a", "--follow", "check", ANN], "--follow stands before a watch, and this is none"),
-        (["a", "--follow", json.dumps(check(ANN))], "--follow stands before a watch, and this is none"),
-        (["a", "--timeout", "0", "check", ANN], "--timeout takes a number from 1 to 4294967295"),
+        *((f"call {words}".split(), "") for words in ("", "--retry 2", "a --retry", "a --retry x", "a --retry 1001", "a --follow=1")),
+        (["call", "a", "--slow", "check", ANN], "'--slow' is not a word of a request; options come before its first word"),
+        (["call", "a", "check", ANN, "--timeout", "3"], "'--timeout' is not a word of a request"),
+        (["call", "a", "--follow", "check", ANN], "--follow stands before a watch, and this is none"),
+        (["call", "a", "--follow", json.dumps(check(ANN))], "--follow stands before a watch, and this is none"),
+        (["call", "a", "--timeout", "0", "check", ANN], "--timeout takes a number from 1 to 4294967295"),
+        (["sevre"], "'serve'"),
+        ([], "serve, call, dump, reshard, sim"),
+        (["help", "sevre"], "sevre"),
+        *((words.split(), store) for words in ("dump --dir d --shards 1 --store -1", "sim --store x", "serve --store=4294967296")),
     ):
-        status, out, err = run("call", *words)
-        must(status == 2 and not out and says in err, f"is {(status, out, err)}: {words}")
-    status, out, err = run("call", "--help")
-    must((status, err) == (0, ""), f"help has status {status}, and says {err}")
+        status, out, err = run(*words)
+        assert (status, out) == (2, "") and err and says in err, words
+
+
+def test_help():
+    """the commands and their options are told"""
     for command in ("call", "dump", "reshard", "serve", "sim"):
-        asked, named = run(command, "--help"), run("help", command)
-        must(named == asked, f"is {named}, and `zanstore {command} --help` {asked}")
+        assert run("help", command) == run(command, "--help")
+    status, out, err = run("call", "--help")
+    assert (status, err) == (0, "")
     for word in ("ADDR", "--retry", "--timeout", "--follow", "write", "read", "check", "watch", "at-least", "exact"):
-        must(word in out, f"help does not tell {word}")
+        assert word in out
     told = run("--help")[1]
     listed = re.findall(r"^  (\w+)  ", told.split("Commands:")[1].split("Options:")[0], re.MULTILINE)
-    must(listed == ["serve", "call", "dump", "reshard", "sim", "help"], f"the program's help lists the commands {listed}")
-    must("zanstore COMMAND --help" in told, "the program's help does not say where the options are told")
-    for words, says in ((["sevre"], "'serve'"), ([], "serve, call, dump, reshard, sim"), (["help", "sevre"], "sevre")):
-        status, out, err = run(*words)
-        must((status, out) == (2, "") and says in err, f"is {(status, out, err)}: {words}")
-    for words in (["dump", "--dir", "d", "--shards", "1", "--store", "-1"], ["sim", "--store", "x"], ["serve", "--store=4294967296"]):
-        status, out, err = run(*words)
-        must((status, out) == (2, "") and "--store takes a number from 0 to 4294967295." in err, f"is {(status, out, err)}: {words}")
+    assert listed == ["serve", "call", "dump", "reshard", "sim", "help"] and "zanstore COMMAND --help" in told

@@ -1,4 +1,4 @@
-"""What `zanstore dump` prints of a store in files.
+"""What `zanstore dump` prints of a store in files, and which faults it tells; those of `zanstore reshard` over the same files are the same.
 
 Each row has a script make a store in a new folder (`harness files`), and holds what the program prints of it, its status and its standard error against lines
 that were worked out by hand.
@@ -8,11 +8,12 @@ import re
 import shutil
 import subprocess
 import tempfile
+from pathlib import Path
 
 import pytest
 
-from folders import THREE, A, B, apart, at, contents, dumped, empty, fault, script, token, while_held
-from libraries import built_library
+from folders import THREE, A, B, apart, at, contents, dumped, empty, fault, resharded, script, token, while_held
+from libraries import holding
 from programs import LIMIT, run, zanstore
 
 GROUP = "servers"
@@ -60,79 +61,94 @@ def test_unchanged(folder):
     assert more == [f"at {token(2)}", f"1 {A}", *events, f"ok {token(3)}", f"yes {token(3)}"]
 
 
-def test_held(folder):
+@pytest.fixture(params=["dump", "reshard"])
+def asks(request):
+    """A command over a folder with so many shards: a dump, or a resharding into a new folder, in which a fault leaves nothing, or
+    files that keep nothing where the old store was opened."""
+
+    def carried(folder, shards, **more):
+        with tempfile.TemporaryDirectory(prefix="new-") as new:
+            found = resharded(folder, shards, new, 3, **more)
+            if "13 Down" in found[2] or "is missing" in found[2]:
+                assert not os.listdir(new)
+            elif "16 Damaged" in found[2]:
+                assert dumped(new, 3) == fault("13 Down", f"{new}: has no store")
+            return found
+
+    return dumped if request.param == "dump" else carried
+
+
+def test_held(folder, asks):
     """a folder that another process has open is left alone"""
 
     def asked():
-        assert dumped(folder, 2) == fault("13 Down", f"{folder}/c.a: is in use by another process")
+        assert asks(folder, 2) == fault("13 Down", f"{folder}/c.a: is in use by another process")
 
     while_held(folder, asked)
     assert dumped(folder, 2) == at(1, A)
 
 
-def test_missing(folder):
+def test_missing(folder, asks):
     """a folder that is not there, and one without a store, in which nothing is made"""
     none = os.path.join(folder, "none")
-    assert dumped(none, 2) == fault("13 Down", f"{none}: No such file or directory")
-    assert dumped(folder, 2) == fault("13 Down", f"{folder}: has no store")
+    assert asks(none, 2) == fault("13 Down", f"{none}: No such file or directory")
+    assert asks(folder, 2) == fault("13 Down", f"{folder}: has no store")
     assert not os.listdir(folder)
 
 
-def test_closed(folder):
+def test_closed(folder, asks):
     """files of which none begins with an open gate keep nothing, however long they are: the folder has no store"""
     script(folder, 2, f"write +{A}")
     for name, whole in contents(folder).items():
-        with open(os.path.join(folder, name), "r+b") as file:
-            assert file.write(b"\0" if whole else b"") == bool(whole)
+        Path(folder, name).write_bytes(b"\0" * bool(whole) + whole[1:])
     assert os.path.getsize(os.path.join(folder, "c.a")) > 1
-    assert dumped(folder, 2) == fault("13 Down", f"{folder}: has no store")
+    assert asks(folder, 2) == fault("13 Down", f"{folder}: has no store")
 
 
-def test_another(folder):
+def test_another(folder, asks):
     """files of another store, or of another number of shards"""
     script(folder, 2, f"write +{A}")
     told = fault("16 Damaged", f"{folder} is of store 1 with 2 shards")
-    assert dumped(folder, 2, store=2) == dumped(folder, 1) == dumped(folder, 3) == told
+    assert dumped(folder, 2, store=2) == asks(folder, 1) == asks(folder, 3) == told
     assert dumped(folder, 2) == at(1, A)
 
 
-def test_mixed(folder):
+def test_mixed(folder, asks):
     """a folder without the coordinator's file has shards that know more than was kept"""
     script(folder, 2, f"write +{A} +{B}", "learn 0", "learn 1", "flush 0", "flush 1")
     empty(folder, "c.a", "c.b")
-    assert dumped(folder, 2) == fault("16 Damaged", apart(0))
+    assert asks(folder, 2) == fault("16 Damaged", apart(0))
     os.remove(os.path.join(folder, "c.a"))
-    assert dumped(folder, 2) == fault("16 Damaged", f"{folder}/c.a: is missing")
+    assert asks(folder, 2) == fault("16 Damaged", f"{folder}/c.a: is missing")
 
 
-def test_ahead(folder):
+def test_ahead(folder, asks):
     """a folder without the coordinator's file has a shard that has learned a place without a version of it"""
     script(folder, 2, f"write +{A}", "learn 0", "flush 0")
     empty(folder, "c.a", "c.b")
-    assert dumped(folder, 2) == fault("16 Damaged", apart(0))
+    assert asks(folder, 2) == fault("16 Damaged", apart(0))
 
 
-def test_behind(folder):
+def test_behind(folder, asks):
     """a folder without a shard's files, which would have to learn what the coordinator has forgotten"""
     script(folder, 2, f"write +{A} +{B}", "raise 1")
     empty(folder, "1.a", "1.b")
-    assert dumped(folder, 2) == fault("16 Damaged", apart(1))
+    assert asks(folder, 2) == fault("16 Damaged", apart(1))
     os.remove(os.path.join(folder, "1.b"))
-    assert dumped(folder, 2) == fault("16 Damaged", f"{folder}/1.b: is missing")
+    assert asks(folder, 2) == fault("16 Damaged", f"{folder}/1.b: is missing")
     assert not os.path.exists(os.path.join(folder, "1.b"))
 
 
-def test_changed(folder):
+def test_changed(folder, asks):
     """a file with another byte, whose node is told"""
     script(folder, 2, f"write +{A} +{B}")
     for node, name in (("c", "the coordinator"), ("1", "shard 1")):
-        with open(os.path.join(folder, f"{node}.a"), "r+b") as file:
-            whole = file.read()
-            for byte, told in ((b"\x77", fault("16 Damaged", f"the files of {name} are damaged")), (whole[5:6], at(1, A, B))):
-                file.seek(5)
-                file.write(byte)
-                file.flush()
-                assert dumped(folder, 2) == told
+        path = Path(folder, f"{node}.a")
+        whole = path.read_bytes()
+        path.write_bytes(whole[:5] + b"\x77" + whole[6:])
+        assert asks(folder, 2) == fault("16 Damaged", f"the files of {name} are damaged")
+        path.write_bytes(whole)
+        assert dumped(folder, 2) == at(1, A, B)
 
 
 def dumped_by_other(folder, top):
@@ -158,11 +174,11 @@ def test_read_only(folder):
             os.chmod(folder, 0o755)
 
 
-def test_full(folder):
+def test_full(folder, asks):
     """an output that takes nothing"""
     script(folder, 2, f"write +{A}")
     with open("/dev/full", "w") as output:
-        assert dumped(folder, 2, stdout=output) == fault("output")
+        assert asks(folder, 2, stdout=output) == fault("output")
 
 
 def test_long(folder):
@@ -171,9 +187,9 @@ def test_long(folder):
     # The first sync of a file of the only shard waits two seconds for that of another shard's.
     note = folder + ".held"
     open(note, "w").close()
-    held = {"LD_PRELOAD": built_library("hold_syncs"), "HOLD_FOLDER": os.path.realpath(folder), "HOLD_FILE": note, "HOLD_SECONDS": "2"}
     words = [zanstore(), "dump", "--dir", folder, "--store", "1", "--shards", "1"]
-    ran = subprocess.run(words, env={**os.environ, **held}, capture_output=True, text=True, timeout=LIMIT)
+    held = {**os.environ, **holding(folder, note, HOLD_SECONDS="2")}
+    ran = subprocess.run(words, env=held, capture_output=True, text=True, timeout=LIMIT)
     assert (ran.returncode, ran.stdout) == at(1, A)[:2]
     assert re.fullmatch(rf"zanstore: \S+Z {re.escape(folder)}: being dumped, for [1-9] s so far\n", ran.stderr), ran.stderr
 

@@ -7,6 +7,7 @@ from programs import harness, lines_of, run
 from verdicts import none
 
 ROWS = Path(__file__).with_name("flow_rows.rows")
+NAME = re.compile(r"^([A-Z]+)(?:_N)? is (.+)\n", re.MULTILINE)
 
 
 def wide_tuple(write, change):
@@ -63,16 +64,24 @@ def steps_of(line, number):
     return [line]
 
 
+def in_full(text):
+    """The text with what each of its names stands for, where a later one may have earlier ones."""
+    text, names = NAME.sub("", text), NAME.findall(text)
+    for name, meant in reversed(names):
+        text = re.sub(rf"\b{name}(?:_(\d))?\b", lambda it: re.sub(r"(?<![A-Z])N\b", it[1] or "", meant), text)
+    return text
+
+
 def rows(text):
     """Of each row its steps, and what its flows do."""
-    for row in text.split("\n\n"):
+    for row in re.split(r"\n(?! )", in_full(text)):
         steps, ends = [], []
-        for line in row.split("\n"):
-            if line and not line.startswith(";"):
-                step, _, end = f" {line}".partition(" = ")
-                ends += [end] if end else []
+        for line in row.split("\n") if row and not row.startswith("#") else ():
+            given, _, end = f" {line.strip()}".partition(" = ")
+            ends += [end] if end else []
+            for step in filter(None, given[1:].split("; ")):
                 number = sum(it.startswith(("start", "write")) for it in steps)
-                steps += [it for part in steps_of(step[1:], number) for it in spelled(part)] if step else []
+                steps += [it for part in steps_of(step, number) for it in spelled(part)]
         if steps:
             yield steps, ends
 

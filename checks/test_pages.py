@@ -11,6 +11,7 @@ laws has a row, each row is of such a file, and each law there has a comment. Ea
 `docs/pictures/draw --check` and `bench/chart --check` tell it, and stands on one page, with words for whoever can't see it.
 """
 import functools
+import itertools
 import os
 import re
 import shlex
@@ -26,7 +27,7 @@ from pathlib import Path
 
 import programs
 from programs import harness, lines_of, run
-from verdicts import all_noticed, none
+from verdicts import SAME, all_noticed, none, spoiled_texts
 
 TOP, PROGRAM = Path(programs.TOP), programs.zanstore()
 # What has to follow a block of this kind.
@@ -72,10 +73,9 @@ def printed(words, given):
 
 
 def difference(wanted, told):
-    for number in range(max(len(wanted), len(told))):
-        pair = [it[number] if number < len(it) else "nothing" for it in (wanted, told)]
-        if pair[0] != pair[1]:
-            return f"line {number + 1} of what is printed is `{pair[1]}`, and not `{pair[0]}`"
+    for number, (one, other) in enumerate(itertools.zip_longest(wanted, told, fillvalue="nothing"), 1):
+        if one != other:
+            return f"line {number} of what is printed is `{other}`, and not `{one}`"
     return None
 
 
@@ -340,21 +340,20 @@ def told(path, number, why):
     return f"{path.relative_to(TOP)}:{number}: {why}"
 
 
-def spoiled(page):
-    """Copies of the page with one thing wrong, each with what was done."""
-    for kind in ("console", *FOLLOWS, *FOLLOWS.values()):
-        for found in re.finditer(rf"^```{kind}.*\n(?:\$.*\n)?", page, re.MULTILINE):
-            yield f"a line more in {kind}", page[: found.end()] + "x\n" + page[found.end() :]
-            if kind != "console":
-                yield f"no {kind}", page[: found.start()] + "```text" + page[found.start() + 3 + len(kind) :]
-    for found in re.finditer(r"\]\((?!\w+:)([^)\s]+)\)", page):
-        yield f"a link to {found[1]}", page[: found.end() - 1] + "x" + page[found.end() - 1 :]
-    for found in re.finditer(r"^\| [^|]+ \| [^|`]*\d(?= \| .*`\]\([^)]*\.rt\))", page, re.MULTILINE):
-        yield f"another number in {found[0]}", page[: found.end()] + "7" + page[found.end() :]
-    for found in re.finditer(r"^\| \d+ `\w+", page, re.MULTILINE):
-        yield f"another name in {found[0]}", page[: found.end()] + "x" + page[found.end() :]
-    for found in re.finditer(r"^\| `\w+` \| \[?`\w+", page, re.MULTILINE):
-        yield f"another name in {found[0]}", page[: found.end()] + "_x" + page[found.end() :]
+FENCED = ("console", *FOLLOWS, *FOLLOWS.values())
+# What may not stand in a page; and in that of the laws.
+KINDS = [
+    *((f"a line more in {kind}", rf"^```{kind}.*\n(?:\$.*\n)?", SAME + "x\n") for kind in FENCED),
+    *((f"no {kind}", rf"^```{kind}(?=.*\n)", "```text") for kind in FENCED[1:]),
+    ("another link", r"\]\((?!\w+:)[^)\s]+(?=\))", SAME + "x"),
+    ("another limit", r"^\| [^|]+ \| [^|`]*\d(?= \| .*`\]\([^)]*\.rt\))", SAME + "7"),
+    ("another refusal", r"^\| \d+ `\w+", SAME + "x"),
+    ("another name", r"^\| `\w+` \| \[?`\w+", SAME + "_x"),
+]
+OF_LAWS = [("no row", r"^\| \[.*\n", ""), ("a row of no laws", r"\Z", "\n| [lib](../crates/laws/src/lib.rt) | nothing |\n")]
+# And in one that shows pictures.
+SHOWING = [("no picture", PICTURE.pattern, ""), ("a picture twice", PICTURE.pattern, SAME * 2)]
+SHOWING += [("a picture without words", PICTURE.pattern, r"![](\2)")]
 
 
 def spoiled_pictures(docs):
@@ -362,22 +361,14 @@ def spoiled_pictures(docs):
     for picture in [*sorted(docs.glob("pictures/*.svg")), *sorted(docs.glob("charts/*.svg"))]:
         yield picture, None, f"no {picture.name}"
         yield picture, picture.read_text().replace("</svg>", " </svg>"), f"another {picture.name}"
-    for text in sorted(docs.glob("pictures/*.txt")):
-        lines = text.read_text().splitlines()
-        for at, line in enumerate(lines):
-            if not line.startswith("#"):
-                yield text, lines_of([*lines[:at], line + "x", *lines[at + 1 :]]), f"another {line} in {text.name}"
-    page = (docs / "BENCH.md").read_text()
-    for table in re.finditer(r"(?:^\|.*\n)+", page, re.MULTILINE):
-        for found in re.finditer(r"(?<= )\d\.\d\d(?= \|)", table[0]) if "Proved by plain" in table[0] else ():
-            at = table.start() + found.start()
-            yield docs / "BENCH.md", page[:at] + "9" + page[at:], f"another {found[0]} in BENCH.md"
-    for path in showing(docs):
-        page = path.read_text()
-        for found in PICTURE.finditer(page):
-            yield path, page.replace(found[0], ""), f"no {found[2]} on {path.name}"
-            yield path, page.replace(found[0], found[0] * 2), f"{found[2]} twice on {path.name}"
-            yield path, page.replace(found[1], ""), f"no words for {found[2]}"
+    bench = docs / "BENCH.md"
+    for table in re.findall(r"^\|.*Proved by plain.*\n(?:\|.*\n)+", bench.read_text(), re.MULTILINE):
+        for what, text in spoiled_texts(table, [("another ratio", r"(?<= )\d(?=\.\d\d \|)", "9")]):
+            yield bench, bench.read_text().replace(table, text), f"{what} in {text[:40]}"
+    kinds = [(path, [("another line", r"^(?!#).+", SAME + "x")]) for path in sorted(docs.glob("pictures/*.txt"))]
+    for path, some in [*kinds, *((path, SHOWING) for path in showing(docs))]:
+        for what, text in spoiled_texts(path.read_text(), some):
+            yield path, text, f"{what} in {path.name}"
 
 
 def spoiled_docs(docs):
@@ -387,13 +378,6 @@ def spoiled_docs(docs):
         path.unlink() if text is None else path.write_text(text)
         yield "a picture", [*faults_of_pictures(docs)], what
         path.write_text(before)
-
-
-def spoiled_laws(page):
-    """Copies of the page of the laws that lack a row, or have one of a file without laws."""
-    for found in re.finditer(r"^\| \[.*\n", page, re.MULTILINE):
-        yield f"no {found[0]}", page.replace(found[0], "")
-    yield "a row of no laws", page + "\n| [lib](../crates/laws/src/lib.rt) | nothing |\n"
 
 
 def spoiled_comments():
@@ -407,8 +391,9 @@ def spoiled_pages():
     yield from spoiled_comments()
     for path, page in pages().items():
         before = len([*faults_of(path, page)])
-        for what, copy in [*spoiled(page), *(spoiled_laws(page) if path.name == "LAWS.md" else ())]:
-            yield "a page", len([*faults_of(path, copy)]) > before, f"{path.relative_to(TOP)}: {what}"
+        for what, copy in spoiled_texts(page, KINDS + OF_LAWS * (path.name == "LAWS.md")):
+            where = difference(page.split("\n"), copy.split("\n"))
+            yield "a page", len([*faults_of(path, copy)]) > before, f"{path.relative_to(TOP)}: {what}: {where}"
 
 
 def test_pages():

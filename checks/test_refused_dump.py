@@ -14,7 +14,7 @@ from folders import contents, dumped, script
 from imaging.format import CLOSED, Epoch, device_bytes
 from judge.lines import token
 from libraries import Refusing
-from verdicts import all_noticed, none
+from verdicts import all_noticed, less_or_more, none, spoiled_texts
 
 GROUP = "servers"
 STORE, SHARDS = 1, 2
@@ -86,15 +86,14 @@ def spoiled():
     bad += [("another refusal", good[1]._replace(error=f"zanstore: {other}\n")) for other in ("13 Down", "16 Damaged", "7 Future", "8 Collected")]
     bad += [("a text beside a refusal", good[1]._replace(text=WHOLE[:40])), ("a text beside a usage", good[2]._replace(text=WHOLE))]
     bad += [("no beginning of the text", good[3]._replace(text=WHOLE[1:40]))]
-    lines = WHOLE.splitlines(keepends=True)
-    bad += [("a line is missing", good[0]._replace(text="".join(lines[:at] + lines[at + 1 :]))) for at in range(len(lines))]
-    bad += [("a line is twice", good[0]._replace(text="".join(lines[: at + 1] + lines[at:]))) for at in range(len(lines))]
+    bad += [(what, good[0]._replace(text=text)) for what, text in spoiled_texts(WHOLE, less_or_more("a line", r"^.*\n"))]
     bad += [("a text with a refusal", good[0]._replace(error=NO_MEMORY))]
     for one in good:
         bad += [("a record is gone", one._replace(since={**before, "c.a": list_of(1)})), ("an opening is noted", one._replace(since=opened))]
         bad += [("an empty file", one._replace(since={**before, "c.a": b""})), ("a file is gone", one._replace(since={"c.a": before["c.a"]}))]
         bad += [("a file more", one._replace(since={**one.since, "0.a": b"\0"})), ("another file is opened", one._replace(since={**before, "c.b": list_of(3)}))]
-        bad += [("a later dump is short", one._replace(later=(0, "".join(lines[:-1]), ""))), ("a later dump fails", one._replace(later=(1, "", NO_MEMORY)))]
+        bad += [("a later dump fails", one._replace(later=(1, "", NO_MEMORY)))]
+        bad += [("a later dump is short", one._replace(later=(0, WHOLE[: WHOLE.rindex("group")], "")))]
     return good, bad
 
 

@@ -1,15 +1,17 @@
 """What `zanstore reshard` makes of a store in files.
 
 Each row has a script make a store in a new folder (`harness files`), has the program carry it over to another folder, and holds what a script and dumps of that
-folder print against lines that were worked out by hand. Then a store of some thousand tuples is carried over there and back by processes that are killed, each
+folder print against lines that were worked out by hand. Which faults of the old folder it tells stands in test_dumped.py.
+Then a store of some thousand tuples is carried over there and back by processes that are killed, each
 at some moment of a whole run, and the command is given again: behind each kill dumps of the old store are what they were, what the kill left is no store, or a
 whole one, and a second try comes out right. `--count` and `--kills` say how many tuples and kills there are, each way.
 """
 import os
+from pathlib import Path
 
 import pytest
 
-from folders import DONE, THREE, A, B, C, apart, at, beside, contents, dumped, empty, fault, resharded, script, token, while_held
+from folders import DONE, THREE, A, B, C, at, beside, contents, dumped, empty, fault, resharded, script, token
 from programs import run, zanstore
 from resharding.carrying import there_and_back
 from resharding.spoiling import spoiled
@@ -89,7 +91,7 @@ def test_decided(folder):
 
 
 def test_taken(folder):
-    """a folder with any file of a store is left alone"""
+    """a new folder with any file of a store is left alone, and one that is not there is not made"""
     script(folder, 2, *THREE)
     for name in ("c.b", "63.a"):
         new = beside(folder, f"new-{name}")
@@ -97,62 +99,20 @@ def test_taken(folder):
         assert resharded(folder, 2, new, 3) == fault("16 Damaged", f"{new}: has a file of a store already"), f"a folder with {name}"
         assert os.listdir(new) == [name], "its files"
     assert resharded(folder, 2, folder, 3) == fault("16 Damaged", f"{folder}: has a file of a store already"), "the same folder"
+    none = os.path.join(folder, "none")
+    assert resharded(folder, 2, none, 3) == fault("13 Down", f"{none}: No such file or directory"), "a folder that is not there"
     assert dumped(folder, 2) == at(3, A), "the store"
-
-
-def test_held(folder):
-    """a folder that another process has open is left alone"""
-    new = beside(folder, "new")
-
-    def asked():
-        assert resharded(folder, 2, new, 3) == fault("13 Down", f"{folder}/c.a: is in use by another process"), "a resharding beside it"
-
-    while_held(folder, asked)
-    assert os.listdir(new) == [], "the new folder"
-    assert resharded(folder, 2, new, 3) == DONE, "a resharding behind it"
-
-
-def test_missing(folder):
-    """folders that are not there"""
-    script(folder, 2, *THREE)
-    none, new = os.path.join(folder, "none"), beside(folder, "new")
-    told = fault("13 Down", f"{none}: No such file or directory")
-    assert resharded(none, 2, folder, 3) == told, "from a folder"
-    assert resharded(folder, 2, none, 3) == told, "to a folder"
-    assert resharded(new, 2, beside(folder, "newer"), 3) == fault("13 Down", f"{new}: has no store"), "from a folder without a store"
-    assert os.listdir(new) == [], "the folder without a store"
-
-
-def test_another(folder):
-    """files of another number of shards, or not all of one moment"""
-    script(folder, 2, f"write +{A} +{B}", "learn 0", "learn 1", "flush 0", "flush 1")
-    new, newer = beside(folder, "new"), beside(folder, "newer")
-    assert resharded(folder, 1, new, 3) == fault("16 Damaged", f"{folder} is of store 1 with 2 shards"), "another number of shards"
-    empty(folder, "c.a")
-    assert resharded(folder, 2, newer, 3) == fault("16 Damaged", apart(0)), "with an empty file of the coordinator"
-    os.remove(os.path.join(folder, "c.a"))
-    newest = beside(folder, "newest")
-    assert resharded(folder, 2, newest, 3) == fault("16 Damaged", f"{folder}/c.a: is missing"), "without the coordinator's file"
-    assert os.listdir(newest) == [], "the new folder"
 
 
 def test_stopped(folder):
     """a new folder without the last of its files, or with an old one, is no store"""
     script(folder, 2, f"write +{A} +{B}", f"write +{C}", "raise 1")
     new = carried(folder)
-    path, whole = os.path.join(new, "c.a"), contents(new)["c.a"]
+    path = Path(new, "c.a")
+    whole = path.read_bytes()
     # The first batch alone: a gate, four bytes of a length, the body, and the gate behind it, which is closed.
-    first = 5 + int.from_bytes(whole[1:5], "big")
-    with open(path, "wb") as file:
-        file.write(whole[:first] + b"\0")
+    path.write_bytes(whole[: 5 + int.from_bytes(whole[1:5], "big")] + b"\0")
     assert dumped(new, 3) == fault("16 Damaged", "the files of the coordinator are damaged"), "half of a coordinator"
-
-
-def test_full(folder):
-    """an output that takes nothing"""
-    script(folder, 2, *THREE)
-    with open("/dev/full", "w") as output:
-        assert resharded(folder, 2, beside(folder, "new"), 3, stdout=output) == fault("output"), "the resharding"
 
 
 def test_usage(folder):

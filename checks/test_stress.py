@@ -7,6 +7,7 @@ before. What a run that failed printed is kept in a file, which `--file` judges 
 """
 import tempfile
 from collections import Counter
+from pathlib import Path
 
 import pytest
 
@@ -28,8 +29,8 @@ SHORT = 1
 def faults_of(lines, seed, seconds, source):
     """What is wrong, behind two lines of counts."""
     run, listed, faults = judged(lines, seed)
-    seen = counted(run, listed) if run else None
-    print(f"{source}: {len(lines)} lines, {len(faults)} faults", *(told(seen) if run else []), sep="\n")
+    seen = counted(run) if run else None
+    print(f"{source}: {len(lines)} lines, {len(faults)} faults", *(told(seen, listed) if run else []), sep="\n")
     return [*(f"{rule}: {text}" for rule, text in faults), *(lacks(seen, seconds) if run else [])]
 
 
@@ -37,8 +38,7 @@ def faults_of(lines, seed, seconds, source):
 def test_run(asked):
     """`--seconds` and `--seed` say how long the threads ask, and what; `--file` has what was printed before."""
     if asked.file:
-        with open(asked.file, "rb") as file:
-            return none(faults_of(lines_in(file.read()), None, 0, asked.file))
+        return none(faults_of(lines_in(Path(asked.file).read_bytes()), None, 0, asked.file))
     seconds, seed = asked.seconds or 20, asked.seed or 1
     lines = printed(seconds, seed)
     faults = faults_of(lines, seed, seconds, f"seed {seed}, {seconds} seconds of the program")
@@ -62,7 +62,7 @@ def test_self(asked):
 
 
 @pytest.mark.long
-@pytest.mark.parametrize("store", wrong_stores.WRONG, ids=lambda store: store.__name__)
-def test_wrong_store(store, asked):
+@pytest.mark.parametrize("mistake", wrong_stores.WRONG)
+def test_wrong_store(mistake, asked):
     """A mistake of a plain store is found in what its callers were told."""
-    assert wrong_stores.found(store, asked.seed or 1), store.__doc__
+    assert wrong_stores.found(wrong_stores.WRONG[mistake], asked.seed or 1)

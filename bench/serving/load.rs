@@ -49,12 +49,10 @@ impl Numbers {
     }
 }
 
-fn touch(client: u64, number: u64) -> String {
-    format!("{{\"op\":\"write\",\"changes\":[{{\"op\":\"touch\",\"tuple\":\"doc:w{client}.{number}#viewer@ann\"}}]}}\n")
-}
-
-fn touch_again(client: u64, number: u64) -> String {
-    format!("{{\"op\":\"write\",\"changes\":[{{\"op\":\"touch\",\"tuple\":\"doc:a{client}.{}#viewer@ann\"}}]}}\n", number % OWN)
+/// A write that touches these tuples.
+fn touch(tuples: &[String]) -> String {
+    let changes: Vec<_> = tuples.iter().map(|tuple| format!("{{\"op\":\"touch\",\"tuple\":\"{tuple}\"}}")).collect();
+    format!("{{\"op\":\"write\",\"changes\":[{}]}}\n", changes.join(","))
 }
 
 fn read(numbers: &mut Numbers) -> String {
@@ -69,13 +67,13 @@ fn check(numbers: &mut Numbers) -> String {
 /// The request of this number, and a sign for what kind it is.
 fn request(work: &str, client: u64, number: u64, numbers: &mut Numbers) -> String {
     match work {
-        "write" => touch(client, number),
-        "again" => touch_again(client, number),
+        "write" => touch(&[format!("doc:w{client}.{number}#viewer@ann")]),
+        "again" => touch(&[format!("doc:a{client}.{}#viewer@ann", number % OWN)]),
         "read" => read(numbers),
         "check" => check(numbers),
         "deep" => "{\"op\":\"check\",\"tuple\":\"doc:deep#viewer@deep\"}\n".to_string(),
         "mix" => match numbers.below(100) {
-            0 => touch(client, number),
+            0 => request("write", client, number, numbers),
             1..=9 => read(numbers),
             _ => check(numbers),
         },
@@ -138,8 +136,7 @@ fn tuples() -> Vec<String> {
 fn fill(address: &str) -> (u64, u128, u64) {
     let (mut session, begin, made) = (Session::new(address), Instant::now(), tuples());
     for some in made.chunks(CHANGES) {
-        let changes: Vec<_> = some.iter().map(|tuple| format!("{{\"op\":\"touch\",\"tuple\":\"{tuple}\"}}")).collect();
-        session.ask(&format!("{{\"op\":\"write\",\"changes\":[{}]}}\n", changes.join(",")));
+        session.ask(&touch(some));
     }
     (made.len() as u64, begin.elapsed().as_nanos(), 0)
 }

@@ -1,5 +1,7 @@
 // A plain server for `bench/serve`: the same lines, the same writes and syncs of files, and answers from a map. It is what the proved server is measured
 // beside, and no store: it refuses less, and forgets nothing. `stub --dir DIR --store N --shards N --listen ADDR --workers N`; prints `ready`.
+#[path = "../log.rs"]
+mod log;
 mod stub_lines;
 mod stub_log;
 mod stub_rows;

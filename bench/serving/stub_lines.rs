@@ -1,4 +1,5 @@
 // Request lines of the stub, read, and its answers, spelled.
+use crate::log::{is_id, is_name, Want};
 use crate::stub_rows::{text_of, Set};
 use crate::token;
 
@@ -10,12 +11,6 @@ const BAD_TUPLE: Refusal = (2, "BadTuple");
 pub struct Change {
     pub key: String,
     pub is_touch: bool,
-}
-
-pub enum Want {
-    Exists,
-    Absent,
-    Since(u64),
 }
 
 pub struct Condition {
@@ -132,29 +127,21 @@ impl Json {
     }
 }
 
-fn is_name(text: &str) -> bool {
-    (1..=64).contains(&text.len()) && text.bytes().all(|byte| byte.is_ascii_lowercase() || byte.is_ascii_digit() || byte == b'_')
-}
-
-fn is_id(text: &str) -> bool {
-    (1..=128).contains(&text.len()) && text.bytes().all(|byte| byte.is_ascii_graphic() && !b"#@:+".contains(&byte))
-}
-
 fn object_of(text: &str) -> Result<String, Refusal> {
     let (namespace, id) = text.split_once(':').ok_or(BAD_TUPLE)?;
-    if is_name(namespace) && is_id(id) { Ok(format!("{namespace}\0{id}\0")) } else { Err(BAD_TUPLE) }
+    if is_name(namespace.as_bytes()) && is_id(id.as_bytes()) { Ok(format!("{namespace}\0{id}\0")) } else { Err(BAD_TUPLE) }
 }
 
 fn set_of(text: &str) -> Result<String, Refusal> {
     let (object, relation) = text.split_once('#').ok_or(BAD_TUPLE)?;
-    if is_name(relation) { Ok(format!("{}{relation}\0", object_of(object)?)) } else { Err(BAD_TUPLE) }
+    if is_name(relation.as_bytes()) { Ok(format!("{}{relation}\0", object_of(object)?)) } else { Err(BAD_TUPLE) }
 }
 
 fn user_of(text: &str) -> Result<String, Refusal> {
     if text.contains(':') {
         return Ok(format!("1{}", set_of(text)?));
     }
-    if is_id(text) { Ok(format!("0{text}")) } else { Err(BAD_TUPLE) }
+    if is_id(text.as_bytes()) { Ok(format!("0{text}")) } else { Err(BAD_TUPLE) }
 }
 
 fn key_of(text: &str) -> Result<String, Refusal> {
@@ -204,7 +191,7 @@ fn condition_of(json: &Json, store: u64) -> Result<Condition, Refusal> {
     let want = match (json.text("want"), json.text("since")) {
         (Ok("exists"), _) => Want::Exists,
         (Ok("absent"), _) => Want::Absent,
-        (_, Ok(token)) => Want::Since(place_of(token, store)?),
+        (_, Ok(token)) => Want::NotAfter(place_of(token, store)?),
         _ => return Err(BAD_REQUEST),
     };
     Ok(Condition { key: key_of(json.text("tuple")?)?, want })
@@ -226,7 +213,7 @@ pub fn read_request(line: &[u8], store: u64, kept: u64) -> Result<Request, Refus
         "check" => Ok(Request::Check(key_of(request.text("tuple")?)?, freshness(&request, store, kept)?)),
         "watch" => {
             let Some(Json::Number(limit)) = request.member("limit") else { return Err(BAD_REQUEST) };
-            let namespaces = request.texts("namespaces", |text| if is_name(text) { Ok(text.to_string()) } else { Err(BAD_TUPLE) })?;
+            let namespaces = request.texts("namespaces", |text| if is_name(text.as_bytes()) { Ok(text.to_string()) } else { Err(BAD_TUPLE) })?;
             Ok(Request::Watch(place_of(request.text("from")?, store)?, *limit, namespaces))
         }
         _ => Err(BAD_REQUEST),

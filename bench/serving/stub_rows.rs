@@ -1,6 +1,7 @@
 // The tuples of a shard in a map, each with the places that changed it. A key is `namespace\0id\0relation\0` and the user: `0` and an id, or `1` and
 // `namespace\0id\0relation\0`; so keys are in the order of tuples, and those of an object lie side by side.
-use crate::stub_lines::{Condition, Want};
+use crate::log::Want;
+use crate::stub_lines::Condition;
 use std::collections::BTreeMap;
 
 #[derive(Default)]
@@ -67,7 +68,7 @@ impl Rows {
         match condition.want {
             Want::Exists => is_at(changes, u64::MAX),
             Want::Absent => !is_at(changes, u64::MAX),
-            Want::Since(place) => changes.last().is_none_or(|last| last.0 <= place),
+            Want::NotAfter(place) => changes.last().is_none_or(|last| last.0 <= place),
         }
     }
 }

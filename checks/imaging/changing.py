@@ -1,5 +1,6 @@
 """An image with one thing changed: of its bytes, of its records, or of the node that it is opened as."""
 from imaging.format import ABSENT, EXISTS, NOT_AFTER, Rules, batches_of, device_bytes
+from verdicts import double, less, turned
 
 EDGES = (0, 1, 2**63 - 1, 2**63, 2**64 - 1)
 TEXTS = ("a", "b", "doc", "x y", "", "a" * 64, "a" * 65, "a" * 129, "A", "a#b", "a:b", "a@b", "a+b")
@@ -69,15 +70,8 @@ def other_list(random, items, other):
     """One of them more, less, twice, elsewhere, or another one."""
     if not items:
         return items
-    at = random.randrange(len(items))
-    kind = random.choice(("less", "twice", "swapped", "other", "other"))
-    if kind == "less":
-        return items[:at] + items[at + 1 :]
-    if kind == "twice":
-        return items[: at + 1] + items[at:]
-    if kind == "swapped":
-        return items[:at] + items[at + 1 : at + 2] + items[at : at + 1] + items[at + 2 :]
-    return (*items[:at], other(random, items[at]), *items[at + 1 :])
+    put = lambda items, at: (*items[:at], other(random, items[at]), *items[at + 1 :])
+    return random.choice((less, double, turned, put, put))(items, random.randrange(len(items)))
 
 
 def other_placed(random, placed):
@@ -124,15 +118,13 @@ def of_list(random, device, images):
     batches, at, which = some_record(random, device)
     version, records = batches[at]
     kind = random.choice(("left out", "doubled", "put elsewhere", "of another node"))
-    rest = records[:which] + records[which + 1 :]
-    if kind == "left out":
-        batches[at] = version, rest
-    elif kind == "doubled":
-        batches[at] = version, records[: which + 1] + records[which:]
-    elif kind == "put elsewhere":
-        batches[at] = version, rest
+    if kind == "doubled":
+        batches[at] = version, double(records, which)
+    elif kind in ("left out", "put elsewhere"):
+        batches[at] = version, less(records, which)
+    if kind == "put elsewhere":
         batches.insert(random.randrange(len(batches) + 1), (version, [records[which]]))
-    else:
+    elif kind == "of another node":
         batches[at] = 2, [*records[:which], a_stranger(random, images), *records[which:]]
     # A batch that has no record more is left out too, or stays as it is.
     stays = random.random() < 0.5

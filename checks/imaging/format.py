@@ -26,6 +26,8 @@ Ends = namedtuple("Ends", "generation")
 MARKS = (Begins, Row, Ends)
 KINDS = {1: Prepare, 2: Learned, 3: Dropped, 4: Epoch, 5: Decision, 6: Horizon}
 CHECKPOINT = 7
+# How each record begins.
+BEGINS = {shape: bytes([kind]) for kind, shape in KINDS.items()} | {shape: bytes([CHECKPOINT, mark]) for mark, shape in enumerate(MARKS)}
 # What a condition asks for; the first with a place.
 NOT_AFTER, EXISTS, ABSENT = 1, 2, 3
 
@@ -49,10 +51,7 @@ class Rules:
 
 class Bytes:
     def __init__(self, rules, bytes):
-        self.rules, self.bytes, self.at = rules, bytes, 0
-
-    def must(self, is_so, rule):
-        self.rules.must(is_so, rule)
+        self.must, self.bytes, self.at = rules.must, bytes, 0
 
     def take(self, count):
         self.must(self.at + count <= len(self.bytes), "a field ends with its body")
@@ -100,55 +99,54 @@ class Bytes:
         self.must(want in (NOT_AFTER, EXISTS, ABSENT), "a condition asks for one of three things")
         return named, want, self.place() if want == NOT_AFTER else None
 
-    def write(self, version, least):
-        changes = self.listed(least, 64, self.change)
-        conditions = self.listed(0, 16, lambda: self.condition(version))
-        for named in ([change[1] for change in changes], [condition[0] for condition in conditions]):
-            self.must(len({*named}) == len(named), "no two changes, and no two conditions, name one tuple")
-        return changes, conditions
+    def listed(self, count, one):
+        return tuple(one() for _ in range(count))
 
-    def listed(self, least, most, one):
+    def some(self, least, most, one):
         count = self.number(1)
         self.must(least <= count <= most, "a write has its number of changes and conditions")
-        return tuple(one() for _ in range(count))
+        return self.listed(count, one)
+
+    def placed(self):
+        count = self.number(2)
+        self.must(count <= 256, "a learned record has at most 256 placed ids")
+        return self.listed(count, lambda: (self.id(), self.place()))
+
+    def field(self, name, shape, version):
+        match name:
+            case "place" | "epoch" | "generation":
+                return self.place()
+            case "changes":
+                return self.some(shape is Decision, 64, self.change)
+            case "conditions":
+                return self.some(0, 16, lambda: self.condition(version))
+            case "store" | "shards" | "node":
+                return self.number(8 if name == "store" else 1)
+        return getattr(self, name)()
 
     def record(self, version):
         kind = self.number(1)
+        self.must(kind in KINDS or kind == CHECKPOINT, "a record is of a kind that there is")
         if kind == CHECKPOINT:
-            return self.mark()
-        self.must(kind in KINDS, "a record is of a kind that there is")
-        if kind == 1:
-            made = Prepare(self.id(), *self.write(version, 0))
-            self.must(made.changes or made.conditions, "a part has a change or a condition")
-            return made
-        if kind == 2:
-            return self.learned()
-        if kind == 3:
-            return Dropped(self.id())
-        if kind == 4:
-            return self.epoch()
-        if kind == 5:
-            return Decision(self.place(), self.id(), *self.write(version, 1))
-        return Horizon(self.place())
-
-    def mark(self):
-        kind = self.number(1)
-        self.must(kind < len(MARKS), "a mark begins or ends a checkpoint, or is a row")
-        return Row(self.place(), self.change()) if kind == 1 else MARKS[kind](self.place())
-
-    def learned(self):
-        place, count = self.place(), self.number(2)
-        self.must(count <= 256, "a learned record has at most 256 placed ids")
-        placed = tuple((self.id(), self.place()) for _ in range(count))
-        places = [at for _, at in placed]
-        self.must(all(a < b for a, b in zip(places, places[1:])), "the places of placed ids rise")
-        self.must(not places or places[-1] <= place, "placed ids lie within the place learned to")
-        return Learned(place, placed)
-
-    def epoch(self):
-        made = Epoch(self.place(), self.number(8), self.number(1), self.number(1))
-        self.must(1 <= made.shards <= 64, "a store has 1 to 64 shards")
+            mark = self.number(1)
+            self.must(mark < len(MARKS), "a mark begins or ends a checkpoint, or is a row")
+        shape = MARKS[mark] if kind == CHECKPOINT else KINDS.get(kind, Horizon)
+        made = shape(*(self.field(name, shape, version) for name in shape._fields))
+        self.fits(made)
         return made
+
+    def fits(self, made):
+        """The rules of a whole record."""
+        if isinstance(made, (Prepare, Decision)):
+            for named in ([change[1] for change in made.changes], [condition[0] for condition in made.conditions]):
+                self.must(len({*named}) == len(named), "no two changes, and no two conditions, name one tuple")
+            self.must(isinstance(made, Decision) or made.changes or made.conditions, "a part has a change or a condition")
+        if isinstance(made, Learned):
+            places = [at for _, at in made.placed]
+            self.must(all(a < b for a, b in zip(places, places[1:])), "the places of placed ids rise")
+            self.must(not places or places[-1] <= made.place, "placed ids lie within the place learned to")
+        if isinstance(made, Epoch):
+            self.must(1 <= made.shards <= 64, "a store has 1 to 64 shards")
 
     def batch(self):
         """The version of a batch, and its records."""
@@ -205,37 +203,28 @@ def condition_bytes(version, condition):
     return tuple_bytes(named) + number(1, want) + (number(8, place) if want == NOT_AFTER else b"")
 
 
-def write_bytes(version, made):
-    changes = b"".join(map(change_bytes, made.changes))
-    conditions = b"".join(condition_bytes(version, condition) for condition in made.conditions)
-    return number(1, len(made.changes)) + changes + number(1, len(made.conditions)) + conditions
-
-
 def change_bytes(change):
     is_touch, named = change
     return (b"\1" if is_touch else b"\2") + tuple_bytes(named)
 
 
-def mark_bytes(made):
-    place = made.place if isinstance(made, Row) else made.generation
-    return number(1, CHECKPOINT) + number(1, MARKS.index(type(made))) + number(8, place) + (change_bytes(made.change) if isinstance(made, Row) else b"")
+def field_bytes(version, name, value):
+    match name:
+        case "id":
+            return id_bytes(value)
+        case "change":
+            return change_bytes(value)
+        case "changes":
+            return number(1, len(value)) + b"".join(map(change_bytes, value))
+        case "conditions":
+            return number(1, len(value)) + b"".join(condition_bytes(version, one) for one in value)
+        case "placed":
+            return number(2, len(value)) + b"".join(id_bytes(id) + number(8, place) for id, place in value)
+    return number(1 if name in ("shards", "node") else 8, value)
 
 
 def record_bytes(version, made):
-    if isinstance(made, MARKS):
-        return mark_bytes(made)
-    kind = next(number(1, kind) for kind, shape in KINDS.items() if isinstance(made, shape))
-    if isinstance(made, Prepare):
-        return kind + id_bytes(made.id) + write_bytes(version, made)
-    if isinstance(made, Learned):
-        return kind + number(8, made.place) + number(2, len(made.placed)) + b"".join(id_bytes(id) + number(8, place) for id, place in made.placed)
-    if isinstance(made, Dropped):
-        return kind + id_bytes(made.id)
-    if isinstance(made, Epoch):
-        return kind + number(8, made.epoch) + number(8, made.store) + number(1, made.shards) + number(1, made.node)
-    if isinstance(made, Decision):
-        return kind + number(8, made.place) + id_bytes(made.id) + write_bytes(version, made)
-    return kind + number(8, made.place)
+    return BEGINS[type(made)] + b"".join(field_bytes(version, name, value) for name, value in zip(made._fields, made))
 
 
 def batch_bytes(version, records):

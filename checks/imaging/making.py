@@ -1,6 +1,7 @@
 """Images that are right: those that real runs leave, the same in the first version of the format where that can spell them, and with checkpoints."""
 import tempfile
 from collections import namedtuple
+from pathlib import Path
 
 from imaging.format import CLOSED, NOT_AFTER, STRETCH, Begins, Ends, Epoch, Horizon, Learned, Row, Rules, batches_of, device_bytes
 from imaging.replaying import COORDINATOR, found, node_of
@@ -42,7 +43,8 @@ def real_images(seed):
 def images_of(folder, store, shards):
     """What the files of a store have, the coordinator's first."""
     nodes = [("c", COORDINATOR), *((str(shard), shard) for shard in range(shards))]
-    return [Image(node, store, shards, *(unstretched(read_file(f"{folder}/{name}.{bank}")) for bank in "ab")) for name, node in nodes]
+    files = lambda name: (unstretched(Path(folder, f"{name}.{bank}").read_bytes()) for bank in "ab")
+    return [Image(node, store, shards, *files(name)) for name, node in nodes]
 
 
 def leave(folder, images):
@@ -50,13 +52,7 @@ def leave(folder, images):
     for image in images:
         node = "c" if image.node == COORDINATOR else image.node
         for bank in "ab":
-            with open(f"{folder}/{node}.{bank}", "wb") as it:
-                it.write(getattr(image, bank))
-
-
-def read_file(path):
-    with open(path, "rb") as it:
-        return it.read()
+            Path(folder, f"{node}.{bank}").write_bytes(getattr(image, bank))
 
 
 def unstretched(content):
@@ -75,7 +71,8 @@ def fault_of(image):
             return f"node {image.node}, bank {bank}: what was written is not how the format spells it"
         if device[end : end + 1] != bytes([CLOSED]):
             return f"node {image.node}, bank {bank}: no closed gate stands behind the last batch"
-        if len(device) > end + 1 and not was_written_over(batches):
+        # A bank that had other records before has the rest of them behind its gate: checkpoints go to banks b and a in turn.
+        if len(device) > end + 1 and generation_of(batches) < 2:
             return f"node {image.node}, bank {bank}: there is more than a closed gate behind the last batch"
         if any(version != 2 for version, _ in batches):
             return f"node {image.node}, bank {bank}: a batch of version 1 was written"
@@ -88,27 +85,15 @@ def generation_of(batches):
     return first.generation if isinstance(first, Begins) else 0
 
 
-def was_written_over(batches):
-    """Whether the bank had other records before, of which the rest stands behind its gate: checkpoints go to banks b and a in turn."""
-    return generation_of(batches) >= 2
-
-
 def has_no_checkpoint(image):
     return not any(generation_of(batches_of(Rules(), device)[0]) for device in (image.a, image.b))
 
 
-def can_be_first(records):
-    return all(want == NOT_AFTER for made in records for _, want, _ in getattr(made, "conditions", ()))
-
-
 def in_first_version(image):
     """The image with its batches in version 1, but for those that ask what it has no word for."""
-    return image._replace(**{bank: first_version_of(getattr(image, bank)) for bank in ("a", "b")})
-
-
-def first_version_of(device):
-    batches, _ = batches_of(Rules(), device)
-    return device_bytes([(1 if can_be_first(records) else 2, records) for _, records in batches])
+    is_more = lambda records: any(want != NOT_AFTER for made in records for _, want, _ in getattr(made, "conditions", ()))
+    first = lambda device: device_bytes([(1 + is_more(records), records) for _, records in batches_of(Rules(), device)[0]])
+    return image._replace(a=first(image.a), b=first(image.b))
 
 
 def checkpoint(generation, image, records):
@@ -146,13 +131,9 @@ def with_checkpoints(random, image):
 
 def other_bank(random, batches, current):
     """What a bank that is not current may have: what it had, nothing, or the next checkpoint in part."""
-    kind = random.choice(("as it was", "as it was", "nothing", "a part"))
-    if kind == "as it was":
-        return batches
-    if kind == "nothing":
-        return []
-    begun = current[0][1][0].generation + 1
-    return [(2, [Begins(begun)]), *((2, [made]) for _, records in current for made in records[1:] if not isinstance(made, Ends))][: random.randrange(1, 6)]
+    records = [made for _, some in current for made in some[1:] if not isinstance(made, Ends)]
+    next_one = [(2, [made]) for made in (Begins(generation_of(current) + 1), *records)]
+    return random.choice((batches, batches, [], next_one[: random.randrange(1, 6)]))
 
 
 def reads_alike(image, other):

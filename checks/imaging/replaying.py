@@ -24,13 +24,10 @@ class Node:
     """What the records so far stand for."""
 
     def __init__(self, rules, node, store, shards):
-        self.rules, self.node, self.store, self.shards = rules, node, store, shards
+        self.must, self.node, self.store, self.shards = rules.must, node, store, shards
         self.epoch = self.horizon = 0
         # the checkpoint that is under way: its generation, and how far it is
         self.generation = self.stage = None
-
-    def must(self, is_so, rule):
-        self.rules.must(is_so, rule)
 
     def replay(self, records):
         for made in records:
@@ -82,25 +79,22 @@ class Node:
             self.row(made)
         else:
             self.must(self.is_inside(), "what ends has begun")
-            self.may_come(*self.lasts())
+            self.may_come(*self.lasts)
             self.must(made.generation == self.generation, "a checkpoint ends as it began")
             self.must(self.horizon <= self.end(), "the horizon of a checkpoint is at most what is learned")
             self.stage = None
 
-    def raise_to(self, place):
-        self.horizon = place
-
 
 class Shard(Node):
+    # What may stand last in a checkpoint before its end.
+    lasts = LEARNED, DOUBTED
+
     def __init__(self, *identity):
         super().__init__(*identity)
         self.in_doubt, self.learned, self.rows = {}, 0, []
 
     def end(self):
         return self.learned
-
-    def lasts(self):
-        return LEARNED, DOUBTED
 
     def own(self, made):
         self.must(not isinstance(made, Decision), "a shard has no decision")
@@ -160,15 +154,14 @@ class Shard(Node):
 
 
 class Coordinator(Node):
+    lasts = (RAISED,)
+
     def __init__(self, *identity):
         super().__init__(*identity)
         self.log, self.ids, self.last, self.base = [], set(), {}, 0
 
     def end(self):
         return self.base + len(self.log)
-
-    def lasts(self):
-        return (RAISED,)
 
     def own(self, made):
         self.must(isinstance(made, Decision), "a coordinator has no prepare, learned or dropped record")
@@ -240,24 +233,14 @@ def node_of(rules, image):
     return (Coordinator if image.node == COORDINATOR else Shard)(rules, image.node, image.store, image.shards)
 
 
-def records_of(rules, device):
-    batches, _ = batches_of(rules, device)
-    return [made for _, records in batches for made in records]
-
-
 def found(rules, image):
     """What the node finds, and whether bank b is the current one."""
-    banks = [records_of(rules, device) for device in (image.a, image.b)]
+    banks = [[made for _, records in batches_of(rules, device)[0] for made in records] for device in (image.a, image.b)]
     is_b = is_b_current(rules, *banks)
     node = node_of(rules, image)
     node.replay(banks[is_b])
     rules.must(not node.is_inside(), "a checkpoint has its end")
     return node, is_b
-
-
-def made_of(device):
-    """The device once it is made, where it was not."""
-    return device if len(device) > 1 else bytes([CLOSED])
 
 
 def answer(rules, image):
@@ -269,6 +252,7 @@ def answer(rules, image):
     if node.epoch == GREATEST:
         return ["refused 15 Full"]
     opening = batch_bytes(2, [Epoch(node.epoch + 1, image.store, image.shards, image.node)])
-    banks = [made_of(image.a), made_of(image.b)]
+    # A device that was not made is made first.
+    banks = [device if len(device) > 1 else bytes([CLOSED]) for device in (image.a, image.b)]
     banks[is_b] = appended(banks[is_b], batches_of(rules, banks[is_b])[1], opening)
     return [*node.told(), *(bank.hex() for bank in banks)]

@@ -9,15 +9,12 @@ READ_CALLS = ("heads", "flush", "learned", "batch", "learn", "read")
 
 
 class Answers(Told):
-    def asked_place(self, flow):
-        return flow.request[1][1]
-
     def answer_goes_on(self, world, flow, kind, call):
         must(call in READ_CALLS, "a call that is none of an answer's")
         made, flow.next = flow.next, call
         if made == "heads":
             world.answers("c")
-        place = self.asked_place(flow)
+        place = flow.request[1][1]
         is_past = call in READ_CALLS[2:] and place is not None and world.kept < place
         if is_past or made == "flush" and (kind == "turn" or call != "flush"):
             must(place is not None and place <= len(world.log), "a flush for no place")
@@ -95,10 +92,7 @@ class Answers(Told):
         must(place >= flow.first_horizon and (flow.next != "heads" or place >= world.horizon), "a watch from below the horizon")
         world.answers("c")
         ends = {min(place + limit, kept) for kept in flow.kept_places if kept >= place}
-        told = [self.events_text(world, place, end, namespaces) for end in ends]
+        events = lambda end: [f"{at} {definitions.change_text(it)}" for at, it in definitions.events(world.log, place, end, namespaces)]
+        told = [[*events(end), f"heartbeat {token(self.store, end)}"] for end in ends]
         must(printed in told, f"the events are one of {told}")
         return [world]
-
-    def events_text(self, world, place, end, namespaces):
-        events = definitions.events(world.log, place, end, namespaces)
-        return [f"{at} {definitions.change_text(change)}" for at, change in events] + [f"heartbeat {token(self.store, end)}"]

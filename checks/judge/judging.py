@@ -15,33 +15,28 @@ class Judge(Writes, Answers, Cares):
     def line(self, world, command, printed):
         """The worlds that may be behind the line."""
         world.line += 1
-        kind, *rest = command
-        if kind == "pass":
-            return [world]
-        if kind == "ask":
-            return self.ask(world, rest[0], printed)
-        if kind == "start":
-            self.is_printed(printed, f"started {rest[0]}")
-            self.begin(world, rest[0], rest[1])
-            return [world]
-        if kind in ("turn", "until", "run"):
-            return self.go_on(world, kind, rest, printed)
-        if kind == "cancel":
-            self.is_printed(printed, f"cancelled {rest[0]}")
-            return self.cancel(world, world.flows.pop(rest[0]))
-        return getattr(self, {"raise": "raise_to"}.get(kind, kind))(world, *rest, printed)
+        match command:
+            case ["pass"]:
+                return [world]
+            case ["ask", request]:
+                # A flow that ends within its line: no other can have its name.
+                self.begin(world, "", request)
+                return self.go_on(world, "ask", [""], printed)
+            case ["start", name, request]:
+                self.is_printed(printed, f"started {name}")
+                self.begin(world, name, request)
+                return [world]
+            case ["turn" | "until" | "run" as kind, *rest]:
+                return self.go_on(world, kind, rest, printed)
+            case ["cancel", name]:
+                self.is_printed(printed, f"cancelled {name}")
+                return self.cancel(world, world.flows.pop(name))
+            case [kind, *rest]:
+                return getattr(self, {"raise": "raise_to"}.get(kind, kind))(world, *rest, printed)
 
     def begin(self, world, name, request):
-        flow = Write(request, world) if request[0] == "write" else Flow(request, world)
-        world.flows[name] = flow
-        if flow.kind == "write":
-            world.writes.append(flow)
-        return flow
-
-    def ask(self, world, request, printed):
-        # A flow that ends within its line: no other can have its name.
-        self.begin(world, "", request)
-        return self.go_on(world, "ask", [""], printed)
+        flow = world.flows[name] = (Write if request[0] == "write" else Flow)(request, world)
+        world.writes += [flow] if flow.kind == "write" else []
 
     # Flows.
 

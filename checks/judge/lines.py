@@ -29,13 +29,14 @@ class Refused(Exception):
         self.number = number
 
 
-def is_id(text):
-    return re.fullmatch(ID, text) is not None
+def need(is_so, number=1):
+    if not is_so:
+        raise Refused(number)
 
 
 def read_user(text):
     if ":" not in text:
-        return (0, text) if is_id(text) else None
+        return (0, text) if re.fullmatch(ID, text) else None
     parts = OBJECT.fullmatch(text)
     return (1, *parts.groups()) if parts and parts[3] else None
 
@@ -43,8 +44,7 @@ def read_user(text):
 def read_tuple(text):
     parts = TUPLE.fullmatch(text)
     user = read_user(parts[4]) if parts else None
-    if not user:
-        raise Refused(2)
+    need(user, 2)
     return Tuple(parts[1], parts[2], parts[3], user)
 
 
@@ -54,14 +54,12 @@ def read_tupleset(text):
         return ("key", read_tuple(text))
     if first and first[0] == ":":
         parts = OBJECT.fullmatch(text)
-        if parts:
-            return ("object", *parts.groups())
-    elif first:
-        parts = BY_USER.fullmatch(text)
-        user = read_user(parts[3]) if parts else None
-        if user:
-            return ("user", parts[1], user, parts[2])
-    raise Refused(2)
+        need(parts, 2)
+        return ("object", *parts.groups())
+    parts = BY_USER.fullmatch(text) if first else None
+    user = read_user(parts[3]) if parts else None
+    need(user, 2)
+    return ("user", parts[1], user, parts[2])
 
 
 def token(store, place):
@@ -69,19 +67,11 @@ def token(store, place):
 
 
 def read_token(text, store):
-    if not re.fullmatch(r"[A-Za-z0-9+/]{24}", text):
-        raise Refused(5)
+    need(re.fullmatch(r"[A-Za-z0-9+/]{24}", text), 5)
     found = base64.b64decode(text)
-    if found[:2] != bytes([1, 0]):
-        raise Refused(5)
-    if int.from_bytes(found[2:10], "big") != store:
-        raise Refused(6)
+    need(found[:2] == bytes([1, 0]), 5)
+    need(int.from_bytes(found[2:10], "big") == store, 6)
     return int.from_bytes(found[10:], "big")
-
-
-def need(is_so, number=1):
-    if not is_so:
-        raise Refused(number)
 
 
 def read_number(text, least=0):
@@ -99,32 +89,27 @@ class Reader:
         need(len(line.encode()) <= MAX_LINE, 3)
         if line == "" or line.startswith(";"):
             return ["pass"]
-        words = line.split(" ")
-        kind, rest = words[0], words[1:]
-        if kind in ("write", "read", "check", "watch"):
-            return ["ask", self.request(words)]
-        if kind == "start":
-            need(len(rest) > 1 and FLOW.fullmatch(rest[0]) and rest[0] not in running)
-            return ["start", rest[0], self.request(rest[1:])]
-        if kind in ("turn", "until", "run", "cancel"):
-            need(len(rest) == (2 if kind == "until" else 1) and rest[0] in running)
-            need(kind != "until" or rest[1] in CALLS)
-            return words
-        if kind == "fail":
-            need(len(rest) == 3 and rest[0] and rest[0][-1] in "ab" and re.fullmatch("old|new|[0-9a-f]{2}", rest[2]))
-            return ["fail", self.node(rest[0][:-1]), rest[0][-1], read_number(rest[1], 1), rest[2]]
-        if kind == "reshard":
-            need(len(rest) == 1)
-            count = read_number(rest[0], 1)
+        match line.split(" "):
+            case ["write" | "read" | "check" | "watch", *_] as words:
+                return ["ask", self.request(words)]
+            case ["start", name, _, *_] as words if FLOW.fullmatch(name) and name not in running:
+                return ["start", name, self.request(words[2:])]
+            case ["turn" | "run" | "cancel", name] as words if name in running:
+                return words
+            case ["until", name, call] as words if name in running and call in CALLS:
+                return words
+            case ["fail", bank, count, tear] if bank[-1:] in ("a", "b") and re.fullmatch("old|new|[0-9a-f]{2}", tear):
+                return ["fail", self.node(bank[:-1]), bank[-1], read_number(count, 1), tear]
             # A store is not carried over while a flow runs.
-            need(count <= MAX_SHARDS and not running)
-            return [kind, count]
-        need(kind in ("flush", "checkpoint", "learn", "resolve", "raise", "collect", "rows", "restart") and len(rest) == 1)
-        if kind == "raise":
-            return [kind, read_number(rest[0])]
-        node = self.node(rest[0])
-        need(node != "c" or kind in ("flush", "checkpoint", "restart"))
-        return [kind, node]
+            case ["reshard", count] if not running and read_number(count, 1) <= MAX_SHARDS:
+                return ["reshard", int(count)]
+            case ["raise", place]:
+                return ["raise", read_number(place)]
+            case ["flush" | "checkpoint" | "restart" as kind, node]:
+                return [kind, self.node(node)]
+            case ["learn" | "resolve" | "collect" | "rows" as kind, shard] if shard != "c":
+                return [kind, self.node(shard)]
+        raise Refused(1)
 
     def node(self, text):
         if text == "c":
@@ -134,9 +119,23 @@ class Reader:
         return shard
 
     def request(self, words):
-        kind, rest = words[0], words[1:]
-        need(kind in ("write", "read", "check", "watch"))
-        return getattr(self, kind)(rest)
+        match words:
+            case ["write", *parts]:
+                return self.write(parts)
+            case ["read", fresh, _, *_]:
+                fresh = self.fresh(fresh)
+                need(len(words) <= 18, 3)
+                sets = [read_tupleset(word) for word in words[2:]]
+                return ["read", self.freshened(fresh), sets]
+            case ["check", fresh, text]:
+                fresh, asked = self.fresh(fresh), read_tuple(text)
+                return ["check", self.freshened(fresh), asked]
+            case ["watch", start, limit, _, *_]:
+                need(read_number(limit, 1) <= 256)
+                need(len(words) <= 19, 3)
+                need(all(re.fullmatch(NAME, word) for word in words[3:]), 2)
+                return ["watch", ("exact", read_token(start, self.store)), int(limit), words[3:]]
+        raise Refused(1)
 
     def write(self, words):
         cut = words.index("if") if "if" in words else len(words)
@@ -169,24 +168,3 @@ class Reader:
     def freshened(self, fresh):
         kind, text = fresh
         return kind, None if text is None else read_token(text, self.store)
-
-    def read(self, words):
-        need(len(words) > 1)
-        fresh = self.fresh(words[0])
-        need(len(words) <= 17, 3)
-        sets = [read_tupleset(word) for word in words[1:]]
-        return ["read", self.freshened(fresh), sets]
-
-    def check(self, words):
-        need(len(words) == 2)
-        fresh = self.fresh(words[0])
-        asked = read_tuple(words[1])
-        return ["check", self.freshened(fresh), asked]
-
-    def watch(self, words):
-        need(len(words) > 2)
-        limit = read_number(words[1], 1)
-        need(limit <= 256)
-        need(len(words) <= 18, 3)
-        need(all(re.fullmatch(NAME, word) for word in words[2:]), 2)
-        return ["watch", ("exact", read_token(words[0], self.store)), limit, words[2:]]

@@ -1,5 +1,6 @@
 """Makes scripts from a seed: lines that a store may meet, in any order."""
 import random
+from collections import namedtuple
 
 from judge import definitions
 from judge.definitions import Change, Condition, Tuple, change_text, condition_text, tuple_text
@@ -17,11 +18,8 @@ NO_LINES = (
 )
 
 
-class Made:
-    """A write that the maker believes to be listed. It need not be so: it only leads it to places and conditions that mean something."""
-
-    def __init__(self, changes):
-        self.changes = changes
+# A write that the maker believes to be listed. It need not be so: it only leads it to places and conditions that mean something.
+Made = namedtuple("Made", "changes")
 
 
 class Maker:
@@ -29,14 +27,10 @@ class Maker:
         self.random = random.Random(seed)
         self.shards = self.random.choice((1, 2, 5, 64))
         self.store = self.random.choice((0, 1, 7, 4294967295))
-        self.lines = []
-        self.listed = []
-        self.raised = 0
-        self.flows = []
-        self.names = 0
+        self.lines, self.listed, self.flows, self.waiting = [], [], [], []
+        self.raised = self.names = 0
         self.tried = {self.shards}
         self.count(self.shards)
-        self.waiting = []
         kinds = {"write": 8, "answer": 6, "care": 3, "nothing": 0.3, "flow": 0, "write_story": 0, "answer_story": 0, "checkpoint": 0, "restart": 0, "fail": 0}
         for kind, weight in (("flow", 4), ("write_story", 3), ("answer_story", 1.5), ("checkpoint", 0.7), ("restart", 0.7), ("fail", 0.7)):
             if self.random.random() < 0.6 and not is_plain:
@@ -63,8 +57,8 @@ class Maker:
         self.close()
         return self.lines
 
-    def say(self, line):
-        self.lines.append(line)
+    def say(self, *lines):
+        self.lines += lines
 
     # The parts of lines.
 
@@ -119,8 +113,8 @@ class Maker:
                 condition = self.condition()
                 conditions[condition.tuple] = condition
         self.changes = Made(tuple(changes.values()))
-        self.is_likely = all(isinstance(each.want, str) or each.want <= len(self.listed) for each in conditions.values())
-        self.is_likely = self.is_likely and all(definitions.holds(self.listed, each) for each in conditions.values())
+        is_known = lambda each: isinstance(each.want, str) or each.want <= len(self.listed)
+        self.is_likely = all(is_known(each) and definitions.holds(self.listed, each) for each in conditions.values())
         asked = ["if", *map(condition_text, conditions.values())] if conditions else []
         return " ".join(["write", *map(change_text, changes.values()), *asked])
 
@@ -157,9 +151,8 @@ class Maker:
             self.say(f"{kind} {self.node() if kind == 'flush' else self.random.choice(self.nodes)}")
 
     def rows(self, shard):
-        self.say(f"rows {shard}")
-        # No version is printed for this one, so the versions end where it begins.
-        self.say("?")
+        # No version is printed for the second one, so the versions end where it begins.
+        self.say(f"rows {shard}", "?")
 
     def node(self):
         return self.random.choice(["c", "c", *self.nodes])
@@ -171,8 +164,7 @@ class Maker:
         name, changes, is_write = flow
         kind = self.random.choice(("turn", "turn", "turns", "until", "until", "run", "cancel"))
         if kind == "turns":
-            for _ in range(self.random.randint(2, 3)):
-                self.say(f"turn {name}")
+            self.say(*[f"turn {name}"] * self.random.randint(2, 3))
         elif kind == "until":
             self.say(f"until {name} {self.random.choice(WRITE_CALLS if is_write else ANSWER_CALLS)}")
         else:
@@ -203,8 +195,7 @@ class Maker:
             meanwhile.append(f"fail {node}a {self.random.randint(1, 4)} {self.random.choice(TEARS)}")
             self.waiting.append(node)
         for text in self.random.sample(meanwhile, self.random.randint(0, 4)):
-            for each in text.split("\n"):
-                self.say(each)
+            self.say(*text.split("\n"))
         self.say(f"{self.random.choice(('run', 'run', 'cancel'))} {name}")
         if self.random.random() < 0.3:
             self.say(f"resolve {self.random.choice(shards)}")
@@ -220,8 +211,7 @@ class Maker:
             self.random.choice((self.care, self.write))()
         if self.random.random() < 0.3:
             self.raised = len(self.listed)
-            self.say(f"raise {self.raised}")
-            self.say(f"collect {self.random.choice(self.nodes)}")
+            self.say(f"raise {self.raised}", f"collect {self.random.choice(self.nodes)}")
         self.say(f"{self.random.choice(('run', 'run', 'cancel'))} {name}")
 
     def start(self):
@@ -236,12 +226,9 @@ class Maker:
     def reshard(self):
         """Flows are ended before it, and nodes opened, or else it may be refused."""
         if self.random.random() < 0.8:
-            for name, _, _ in self.flows:
-                self.say(f"{self.random.choice(('run', 'cancel'))} {name}")
-            self.flows = []
-            for node in self.waiting:
-                self.say(f"restart {node}")
-            self.waiting = []
+            self.say(*(f"{self.random.choice(('run', 'cancel'))} {name}" for name, _, _ in self.flows))
+            self.say(*(f"restart {node}" for node in self.waiting))
+            self.flows, self.waiting = [], []
         shards = self.random.choice((1, 2, 3, 5, 8, 64))
         self.say(f"reshard {shards}")
         self.tried.add(shards)
@@ -264,16 +251,11 @@ class Maker:
     def close(self):
         """Ends all flows, opens all nodes until no script of a disk can wait, and looks at everything, however many shards there are."""
         shards = sorted({shard for tried in self.tried for shard in self.named(tried)})
-        for name, _, _ in self.flows:
-            self.say(f"{self.random.choice(('run', 'cancel'))} {name}")
-        for _ in range(0 if self.is_plain else 3):
-            for node in ["c", *shards]:
-                self.say(f"restart {node}")
-        for shard in shards:
-            self.say(f"resolve {shard}")
+        self.say(*(f"{self.random.choice(('run', 'cancel'))} {name}" for name, _, _ in self.flows))
+        self.say(*(f"restart {node}" for node in ["c", *shards] * (0 if self.is_plain else 3)))
+        self.say(*(f"resolve {shard}" for shard in shards))
         self.say(" ".join(["read latest", *(f"{namespace}:{id}" for namespace, id in OBJECTS)]))
-        self.say(f"watch {token(self.store, self.raised)} 256 doc group")
-        self.say("read latest doc@u1 group@u1")
+        self.say(f"watch {token(self.store, self.raised)} 256 doc group", "read latest doc@u1 group@u1")
         for shard in shards:
             self.say(f"learn {shard}")
             self.rows(shard)

@@ -19,8 +19,7 @@ class Failed(Exception):
 
 class Printed:
     def __init__(self, lines):
-        self.lines = lines
-        self.at = 0
+        self.lines, self.at = lines, 0
 
     def one(self):
         if self.at == len(self.lines):
@@ -33,6 +32,10 @@ class Printed:
         while self.at < len(self.lines) and shape.match(self.lines[self.at]):
             self.at += 1
         return self.lines[begin : self.at]
+
+    def one_like(self, begin):
+        """The next line, if it begins so."""
+        return [self.one()] if self.at < len(self.lines) and self.lines[self.at].startswith(begin) else []
 
     def up_to(self, last):
         """Lines to the first that begins like this, or to a refusal."""
@@ -54,9 +57,7 @@ class Reading:
     """Takes what each line printed, and knows which flows run."""
 
     def __init__(self, store, shards, printed):
-        self.reader = Reader(store, shards)
-        self.printed = Printed(printed)
-        self.running = {}
+        self.reader, self.printed, self.running = Reader(store, shards), Printed(printed), {}
 
     def line(self, line):
         """The command of the line, or none where it has to be refused and was; and what it printed."""
@@ -70,39 +71,27 @@ class Reading:
         return command, self.of_command(command)
 
     def of_command(self, command):
-        kind, *rest = command
-        if kind == "pass":
-            return []
-        if kind == "ask":
-            return self.printed.of_request(rest[0][0])
-        if kind == "rows":
-            return self.printed.while_like(VERSION) or self.refused_rows()
-        if kind == "resolve":
-            return self.printed.up_to("done")
-        if kind == "start":
-            self.running[rest[0]] = rest[1][0]
-            return [self.printed.one()]
-        if kind in ("turn", "until", "run"):
-            return self.of_flow(rest[0])
-        if kind == "cancel":
-            del self.running[rest[0]]
+        match command:
+            case ["pass"]:
+                return []
+            case ["ask", [kind, *_]]:
+                return self.printed.of_request(kind)
+            case ["rows", _]:
+                # A line that is refused for its shape stands behind each `rows` whose refusal could be taken for its own.
+                return self.printed.while_like(VERSION) or self.printed.one_like("refused 13 Down")
+            case ["resolve", _]:
+                return self.printed.up_to("done")
+            case ["turn" | "until" | "run", name, *_]:
+                return self.printed.one_like("next ") or self.printed.of_request(self.running.pop(name))
         printed = [self.printed.one()]
-        if kind == "reshard" and printed == ["done"]:
-            self.reader.shards = rest[0]
+        match command:
+            case ["start", name, [kind, *_]]:
+                self.running[name] = kind
+            case ["cancel", name]:
+                del self.running[name]
+            case ["reshard", count] if printed == ["done"]:
+                self.reader.shards = count
         return printed
-
-    def refused_rows(self):
-        # A line that is refused for its shape stands behind each `rows` whose refusal could be taken for its own.
-        at = self.printed.at
-        if at < len(self.printed.lines) and self.printed.lines[at] == "refused 13 Down":
-            return [self.printed.one()]
-        return []
-
-    def of_flow(self, name):
-        at = self.printed.at
-        if at < len(self.printed.lines) and self.printed.lines[at].startswith("next "):
-            return [self.printed.one()]
-        return self.printed.of_request(self.running.pop(name))
 
 
 def judged(script, printed, store, shards):

@@ -2,75 +2,66 @@
 import random
 import re
 
-from judge.lines import MAX_SHARDS, REFUSALS, token
+from judge.lines import MAX_SHARDS, REFUSALS, read_token, token
 from judge.making import Maker
 from judge.reading import Failed, Reading, judged
-from verdicts import is_refused
+from programs import lines_of
+from verdicts import EVENT, OTHER_KIND, ROW, SAME, is_refused, less_or_more, spoiled_texts
 
 SPOILS = 24
 RESHARDS = [f"reshard {count}" for count in range(1, MAX_SHARDS + 1)]
+TOKEN = r"AQ[A-Za-z0-9+/]{22}"
+# An answer that is no refusal, and no list of versions.
+TOLD = r"\A(?:ok |at |yes |no |done$|up$|[\s\S]*^heartbeat )[\s\S]*"
 
 
 def refused(number):
-    return [f"refused {number} {REFUSALS[number - 1]}"]
+    return f"refused {number} {REFUSALS[number - 1]}\n"
 
 
-def shifted(text, store, by):
-    """The line with the place of its token shifted."""
-    for place in range(1, 400):
-        if token(store, place) in text:
-            return text.replace(token(store, place), token(store, place + by))
-    return None
+def at_next_place(name):
+    return [(name, r"^(\d+)(?= [+-])", lambda it: str(int(it[1]) + 1))]
 
 
-def without(lines, index):
-    return lines[:index] + lines[index + 1 :]
+# What may not come in the place of an answer, by its shape.
+KINDS = (
+    *less_or_more("a row", ROW),
+    ("a row of another user", ROW.removesuffix(r"\n"), SAME + "9"),
+    ("rows in another order", rf"({ROW})({ROW})", r"\2\1"),
+    ("the other membership", "^yes ", "no "),
+    ("the other membership", "^no ", "yes "),
+    ("another call", "^next (?!outcome).*", "next outcome"),
+    ("another call", "^next outcome", "next vote"),
+    ("an id of another epoch", r"\A(\w+) (\d+)\.", lambda it: f"{it[1]} {int(it[2]) - 1}."),
+    ("another verdict", r"\Aabort", "commit"),
+    ("another verdict", r"\A(?:commit|undecided) (\S+).*", r"abort \1"),
+    ("carried over while a flow runs", r"^refused 1 .*", "done"),
+    *(("another refusal", rf"^refused (?!{number} ).*\n", refused(number)) for number in (7, 8, 9, 10, 11, 13)),
+    *(("a refusal without its cause", TOLD, refused(number)) for number in (7, 8, 9, 10, 11, 12, 13, 14, 16)),
+)
+MOVED = [("not carried over although no flow runs", "^done\n", refused(1))]
+EVENTS = [("an event is missing", EVENT, ""), *at_next_place("an event at another place"), *OTHER_KIND]
+
+
+def versions(lines):
+    """Those of the last place need not be learned."""
+    last = max(int(line.split(" ")[0]) for line in lines)
+    return [*at_next_place("a version at another place"), ("a version is missing", rf"^(?!{last} )" + EVENT[1:], "")]
+
+
+def places(store):
+    """The place of each token shifted, but for place 0."""
+    of = lambda found: read_token(found[0], store)
+    return [("another place", TOKEN, lambda it, by=by: token(store, of(it) + by) if of(it) else it[0]) for by in (1, -1)]
 
 
 def spoils(lines, store, is_moved):
     """Other answers in the place of this one, each with what is wrong with it; whether it is told of a store that is carried over."""
-    first, last = lines[0], lines[-1]
-    for by in (1, -1):
-        for index in {0, len(lines) - 1}:
-            text = shifted(lines[index], store, by)
-            if text:
-                yield "another place", lines[:index] + [text] + lines[index + 1 :]
-    if first.startswith("at "):
-        for index in range(1, len(lines)):
-            yield "a row is missing", without(lines, index)
-            yield "a row twice", lines[: index + 1] + lines[index:]
-            yield "a row of another user", lines[:index] + [lines[index] + "9"] + lines[index + 1 :]
-        for index in range(2, len(lines)):
-            yield "rows in another order", lines[: index - 1] + [lines[index], lines[index - 1]] + lines[index + 1 :]
-    if last.startswith("heartbeat "):
-        for index in range(len(lines) - 1):
-            yield "an event is missing", without(lines, index)
-            place, change = lines[index].split(" ")
-            yield "an event at another place", lines[:index] + [f"{int(place) + 1} {change}"] + lines[index + 1 :]
-            yield "an event of the other kind", lines[:index] + [f"{place} {'-' if change[0] == '+' else '+'}{change[1:]}"] + lines[index + 1 :]
-    if re.match(r"\d+ [+-]", first) and not last.startswith("heartbeat "):
-        places = [int(text.split(" ")[0]) for text in lines]
-        for index, text in enumerate(lines):
-            yield "a version at another place", lines[:index] + [f"{places[index] + 1} {text.split(' ')[1]}"] + lines[index + 1 :]
-            if places[index] < max(places):
-                yield "a version is missing", without(lines, index)
-    if first.startswith(("yes ", "no ")):
-        yield "the other membership", [first.replace("yes", "no") if first[0] == "y" else first.replace("no", "yes")]
-    if first.startswith(("ok ", "at ", "yes ", "no ")) or first in ("done", "up") or last.startswith("heartbeat "):
-        for number in (7, 8, 9, 10, 11, 12, 13, 14, 16):
-            yield "a refusal without its cause", refused(number)
-    if first.startswith("refused "):
-        for number in {7, 8, 9, 10, 11, 13} - {int(first.split(" ")[1])}:
-            yield "another refusal", refused(number)
-    if first.startswith("refused 1 "):
-        yield "carried over while a flow runs", ["done"]
-    if first == "done" and is_moved:
-        yield "not carried over although no flow runs", refused(1)
-    if last == "done" and len(lines) > 1:
-        yield "an id of another epoch", [re.sub(r" (\d+)\.", lambda found: f" {int(found[1]) - 1}.", first)] + lines[1:]
-        yield "another verdict", [first.replace("abort", "commit") if first.startswith("abort") else "abort " + first.split(" ")[1]] + lines[1:]
-    if first.startswith("next "):
-        yield "another call", ["next " + ("outcome" if first != "next outcome" else "vote")]
+    text = lines_of(lines)
+    kinds = [*KINDS, *places(store), *(MOVED if is_moved else [])]
+    if re.match(EVENT, text):
+        kinds += EVENTS if lines[-1].startswith("heartbeat ") else versions(lines)
+    return [(what, other.splitlines()) for what, other in spoiled_texts(text, kinds) if other != text]
 
 
 def answers(maker, script, printed):

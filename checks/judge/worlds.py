@@ -35,24 +35,17 @@ class Shard(Node):
 
     def __init__(self):
         super().__init__()
-        self.learned = 0
-        self.settled = 0
+        self.learned = self.settled = self.opened = self.resolved = 0
         self.collected = {0}
-        self.opened = 0
-        self.resolved = 0
 
 
 class Flow:
     """A request on its way. `lines` are those of its beginning and its end; the rest is what it may have met so far."""
 
     def __init__(self, request, world):
-        self.request = request
-        self.kind = request[0]
+        self.request, self.kind, self.met_down = request, request[0], False
         self.next = "begin" if self.kind == "write" else "heads"
-        self.kept_places = {world.kept}
-        self.least_length = len(world.log)
-        self.first_horizon = world.horizon
-        self.met_down = False
+        self.kept_places, self.least_length, self.first_horizon = {world.kept}, len(world.log), world.horizon
 
     def twin(self):
         other = copy.copy(self)
@@ -70,17 +63,9 @@ class Write(Flow):
         super().__init__(request, world)
         self.changes, self.conditions = request[1:]
         self.stage = 0
-        self.id = None
-        self.kept = None
-        self.begun = None
-        self.ended = None
-        self.is_left = False
-        self.is_unsure = False
-        self.opened = set()
-        self.dropped = set()
-        self.gone = set()
-        self.met_broken = False
-        self.met_held = False
+        self.id = self.kept = self.begun = self.ended = None
+        self.is_left = self.is_unsure = self.met_broken = self.met_held = False
+        self.opened, self.dropped, self.gone = set(), set(), set()
         self.tuples = {part.tuple: home(part.tuple, world.count) for part in self.changes + self.conditions}
         self.shards = sorted(set(self.tuples.values()))
 
@@ -92,17 +77,14 @@ class Write(Flow):
 
 class World:
     def __init__(self, count):
-        self.count = count
-        self.log = []
-        self.kept = 0
-        self.horizon = 0
-        self.epoch = 1
-        self.number = 0
-        self.line = 0
+        self.kept = self.horizon = self.number = self.line = 0
+        self.epoch, self.log, self.flows, self.aborted = 1, [], {}, set()
+        self.begin(count)
+
+    def begin(self, count):
+        """Nodes of so many shards, and no write that is in doubt."""
+        self.count, self.writes = count, []
         self.nodes = {"c": Node(), **{shard: Shard() for shard in range(count)}}
-        self.flows = {}
-        self.writes = []
-        self.aborted = set()
 
     def twin(self):
         other = copy.copy(self)
@@ -124,11 +106,8 @@ class World:
 
     def carried(self, count):
         """The store with so many shards that has what this one has, but for what is in doubt."""
-        self.count = count
-        self.epoch += 1
-        self.number = 0
-        self.writes = []
-        self.nodes = {"c": Node(), **{shard: Shard() for shard in range(count)}}
+        self.begin(count)
+        self.epoch, self.number = self.epoch + 1, 0
         for shard in range(count):
             node = self.nodes[shard]
             node.learned = node.settled = self.kept

@@ -44,10 +44,6 @@ class Running:
             self.told.append(line[:-1].decode())
         return line.endswith(b"\n")
 
-    def read_answers(self, count):
-        while sum(line.startswith("ok ") for line in self.told) < count and self.read_line():
-            pass
-
     def end(self):
         """Its status, none where it was killed. What it printed is read to the last byte."""
         while self.read_line():
@@ -63,7 +59,8 @@ class Running:
 def live(folder, writes, moment=None):
     running = Running(folder, script(writes))
     if moment:
-        running.read_answers(moment.answers)
+        while sum(line.startswith("ok ") for line in running.told) < moment.answers and running.read_line():
+            pass
         time.sleep(moment.seconds)
         running.child.kill()
     status = running.end()

@@ -79,11 +79,8 @@ class Carrying:
     """From one folder to another, killed and given again. `spoil` may change a folder at each of the moments at which one is looked at."""
 
     def __init__(self, store, seed, spoil=None):
-        self.store = store
-        self.random = random.Random(seed)
+        self.store, self.random, self.seen, self.seconds = store, random.Random(seed), Counter(), 0
         self.spoil = spoil or (lambda moment, folder: None)
-        self.seen = Counter()
-        self.seconds = 0
 
     def left(self, folder, shards):
         """What a kill has left: no file, files in which nothing is kept, what no opening takes, or the whole store. It is never anything else."""

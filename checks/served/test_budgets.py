@@ -2,7 +2,6 @@
 import threading
 import time
 
-from judge.worlds import must
 from serving.server import SHARDS, Server, is_start, run, untimed, waits
 from serving.wire import Session, check, is_told, place_of, read, refusal, token, watch, write
 
@@ -36,17 +35,11 @@ def member(object, number):
 
 def touch_all(session, tuples):
     for first in range(0, len(tuples), MANY):
-        told = session.ask(write(*("+" + one for one in tuples[first : first + MANY])))
-        must("zookie" in told, f"a write tells {told}")
-
-
-def is_refused(session, request):
-    is_told(session, request, NO_MEMORY)
+        assert "zookie" in session.ask(write(*("+" + one for one in tuples[first : first + MANY])))
 
 
 def has_rows(session, sets, rows):
-    told = session.ask(read(*sets))
-    must(told.get("sets") == rows, f"a read of {sets} tells {str(told)[:200]}, and not {sum(map(len, rows))} tuples")
+    assert session.ask(read(*sets)).get("sets") == rows
 
 
 def asks_small(port, is_over, wrong):
@@ -70,18 +63,17 @@ def test_reads(folder):
         for other in others:
             other.start()
         for _ in range(3):
-            is_refused(session, read("doc:over"))
-            is_refused(session, read("doc:tiny", "doc:over"))
+            is_told(session, read("doc:over"), NO_MEMORY)
+            is_told(session, read("doc:tiny", "doc:over"), NO_MEMORY)
             has_rows(session, ["doc:tiny"], [[member("tiny", 0)]])
             has_rows(session, ["doc:full"], [full])
-            is_refused(session, read("doc:full", "doc:tiny"))
+            is_told(session, read("doc:full", "doc:tiny"), NO_MEMORY)
         is_over.set()
         for other in others:
             other.join()
-        must(not wrong, f"a small read beside large ones tells {wrong[:1]}")
-        line = server.told()
-        must(untimed(line) == PASSED, f"tells {line!r}")
-        is_refused(session, read("doc:over"))
+        assert not wrong
+        assert untimed(server.told()) == PASSED
+        is_told(session, read("doc:over"), NO_MEMORY)
         # A reporter looks once a second.
         time.sleep(2)
         server.is_silent()
@@ -96,10 +88,10 @@ def test_named_again(folder):
     with Server(folder, **{"answer-mib": MIB}) as server, Session(server.port) as session:
         touch_all(session, some + more + named)
         has_rows(session, ["doc:some"] * SETS, [some] * SETS)
-        is_refused(session, read(*["doc:more"] * SETS))
+        is_told(session, read(*["doc:more"] * SETS), NO_MEMORY)
         has_rows(session, ["doc:more"] * (SETS - 1), [more] * (SETS - 1))
         has_rows(session, ["doc@ann"] * (SETS - 1), [named] * (SETS - 1))
-        is_refused(session, read(*["doc@ann"] * SETS))
+        is_told(session, read(*["doc@ann"] * SETS), NO_MEMORY)
 
 
 def test_checks(folder):
@@ -112,11 +104,10 @@ def test_checks(folder):
     with Server(folder, **{"answer-mib": MIB}) as server, Session(server.port) as session:
         touch_all(session, links)
         for _ in range(2):
-            told = session.ask(check("group:full#member@ann"))
-            must(told.get("member") is False, f"a check of {most} groups tells {told}")
-            is_refused(session, check("group:over#member@ann"))
+            assert session.ask(check("group:full#member@ann")).get("member") is False
+            is_told(session, check("group:over#member@ann"), NO_MEMORY)
         status, out, err = run("call", f"127.0.0.1:{server.port}", "--retry", "2", "check", "group:over#member@ann")
-        must((status, out) == (1, '{"error":14,"name":"NoMemory"}\n') and "ask for less" in err, f"a call is (status, output, error) {(status, out, err)}")
+        assert (status, out) == (1, '{"error":14,"name":"NoMemory"}\n') and "ask for less" in err
 
 
 def write_many(session):
@@ -138,8 +129,7 @@ def test_window(folder):
         late = last - LAST
         is_told(session, read(f"doc:{late - 1:03}.00", exact=token(late)), {"sets": [[f"doc:{late - 1:03}.00#viewer@user"]], "zookie": token(late)})
         is_told(session, read("doc:000.00"), {"sets": [["doc:000.00#viewer@user"]], "zookie": token(last)})
-        told = session.ask(watch(token(late), "doc"))
-        must(len(told["events"]) == LAST * MANY, f"a watch of the last {LAST} writes tells {len(told['events'])} events")
+        assert len(session.ask(watch(token(late), "doc"))["events"]) == LAST * MANY
 
 
 def test_wide_window(folder):
@@ -149,15 +139,13 @@ def test_wide_window(folder):
         write_many(session)
         time.sleep(3)
         is_told(session, read("doc:000.00", exact=token(1)), {"sets": [["doc:000.00#viewer@user"]], "zookie": token(1)})
-        told = session.ask(watch(token(0), "doc", limit=1))
-        must(len(told["events"]) == MANY, f"a watch from the beginning tells {str(told)[:200]}")
+        assert len(session.ask(watch(token(0), "doc", limit=1))["events"]) == MANY
 
 
 def test_told_at_the_start(folder):
     """the start line has both budgets, with the defaults that docs/OPERATIONS.md names"""
     with Server(folder) as server:
-        line = server.told()
-        must(is_start(line, folder, SHARDS, 0, 0) and line.endswith("; answers up to 1024 MiB, window up to 1000000 places or 4096 MiB\n"), f"tells {line!r}")
+        assert (line := server.told()).endswith("; answers up to 1024 MiB, window up to 1000000 places or 4096 MiB\n")
+        assert is_start(line, folder, SHARDS, 0, 0)
     with Server(folder, window=7, **{"answer-mib": 3, "window-mib": 5}) as server:
-        line = server.told()
-        must(line.endswith("; answers up to 3 MiB, window up to 7 places or 5 MiB\n"), f"tells {line!r}")
+        assert server.told().endswith("; answers up to 3 MiB, window up to 7 places or 5 MiB\n")

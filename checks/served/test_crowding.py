@@ -9,8 +9,8 @@ import time
 import pytest
 
 from judge.worlds import Wrong, must
-from serving.server import HOST, SHARDS, Server, is_beginning
-from serving.wire import LIMIT, Gone, Session, check, read, spelled, token, write
+from serving.server import HOST, SHARDS, Server, is_beginning, lasting
+from serving.wire import LIMIT, Gone, Session, check, is_next, is_told, read, spelled, token, write
 
 GROUP = "servers"
 CROWD = 1100
@@ -25,8 +25,7 @@ SLOWEST, LATEST = 30, 300
 
 
 def is_answered(session):
-    answer = session.ask(ASKED)
-    must(answer == NO, f"answers {answer}")
+    is_told(session, ASKED, NO)
 
 
 def crowd_of(port):
@@ -35,18 +34,16 @@ def crowd_of(port):
     for _ in range(CROWD):
         one = socket.create_connection((HOST, port), timeout=LIMIT)
         crowd.append(one)
-        try:
+        with contextlib.suppress(OSError):
             one.sendall(spelled(ASKED))
-        except OSError:
-            pass
         one.setblocking(False)
     return crowd
 
 
-def took(one):
+def took(one, most=1024):
     """What came over it, or nothing where it was ended."""
     try:
-        return one.recv(1024)
+        return one.recv(most)
     except OSError:
         return b""
 
@@ -90,11 +87,12 @@ def test_crowded(folder):
             is_answered(session)
 
 
-def fill(session):
+def fill(port):
     """Makes a list whose read is some 60,000 bytes."""
-    for number in range(8):
-        rows = [f"+doc:list#viewer@{number}.{row}.{'x' * 90}" for row in range(64)]
-        must("zookie" in session.ask(write(*rows)), "a write of 64 changes is refused")
+    with Session(port) as session:
+        for number in range(8):
+            rows = [f"+doc:list#viewer@{number}.{row}.{'x' * 90}" for row in range(64)]
+            is_told(session, write(*rows), {"zookie": token(number + 1)})
 
 
 def filled(port, room=None):
@@ -116,31 +114,26 @@ def filled(port, room=None):
 def test_never_reads(folder):
     """a client that never reads, and others go on"""
     with Server(folder, workers=2) as server:
-        with Session(server.port) as session:
-            fill(session)
+        fill(server.port)
         with filled(server.port), Session(server.port) as session:
             for number in range(20):
-                answer = session.ask(write(f"+doc:a{number}#viewer@ann"))
-                must("zookie" in answer, f"answers {answer}")
+                is_told(session, write(f"+doc:a{number}#viewer@ann"), {"zookie": token(9 + number)})
         with Session(server.port) as first, Session(server.port) as second:
             for session in (first, second):
-                answer = session.ask(check("doc:a19#viewer@ann"))
-                must(answer.get("member") is True, f"answers {answer} once that client has gone")
+                is_told(session, check("doc:a19#viewer@ann"), {"member": True, "zookie": token(28)})
 
 
 @contextlib.contextmanager
 def only_worker_taken(folder, **options):
     """A server of one worker, and a client that has it and reads no answer, of little room for answers."""
     with Server(folder, workers=1, **options) as server:
-        with Session(server.port) as session:
-            fill(session)
+        fill(server.port)
         with filled(server.port, 4096) as taking:
             yield server, taking
 
 
-def is_next(other):
-    answer = other.answer()
-    must(answer == {"member": False, "zookie": token(8)}, f"answers {answer} to the one that waited")
+# The answer to the one that waits.
+BEHIND = {"member": False, "zookie": token(8)}
 
 
 def is_cut(one):
@@ -148,10 +141,8 @@ def is_cut(one):
     try:
         while one.recv(1 << 20):
             pass
-    except TimeoutError:
-        return False
-    except OSError:
-        pass
+    except OSError as ended:
+        return not isinstance(ended, TimeoutError)
     return True
 
 
@@ -159,14 +150,11 @@ def is_cut(one):
 def test_unread_answers(folder):
     """a client that never reads has the only worker for half a minute at least, loses it in the end, and who waits is answered"""
     with Server(folder, workers=1) as server:
-        with Session(server.port) as session:
-            fill(session)
-        begin = time.monotonic()
-        with filled(server.port) as unread, Session(server.port, LATEST) as other:
-            other.send(spelled(ASKED))
-            is_next(other)
-            waited = time.monotonic() - begin
-            must(waited >= SLOWEST, f"a client that reads nothing gave its worker up after {waited:.1f} s")
+        fill(server.port)
+        with lasting("a client that reads nothing has its worker", SLOWEST):
+            unread, other = filled(server.port), Session(server.port, LATEST)
+            is_told(other, ASKED, BEHIND)
+        with unread, other:
             must(is_cut(unread), "the client that reads nothing has a connection still, and there is one worker")
 
 
@@ -174,10 +162,7 @@ def sips(one, seconds, is_over, most=100):
     """For how long bytes of answers were taken, up to so many twice a second, until it is over."""
     begin = time.monotonic()
     while time.monotonic() < begin + seconds and not is_over():
-        try:
-            one.recv(most)
-        except OSError:
-            pass
+        took(one, most)
     return time.monotonic() - begin
 
 
@@ -199,7 +184,7 @@ def test_sipped_answers(folder):
         waited = sips(sipping, LATEST, lambda: comes(other))
         # It has kept the worker since before, while it was filled.
         must(SLOWEST - 10 <= waited < SLOWEST + 15, f"a client that takes 200 bytes a second kept its worker for {waited:.1f} s")
-        is_next(other)
+        is_next(other, BEHIND)
 
 
 @pytest.mark.long
@@ -208,8 +193,7 @@ def test_sipped_last(folder):
     with only_worker_taken(folder, connections=2) as (server, sipping):
         waited = sips(sipping, LATEST, lambda: half_a_second() or not server.goes_on())
         must(SLOWEST - 10 <= waited < SLOWEST + 15, f"a client that takes 200 bytes a second kept a server for {waited:.1f} s")
-        status, out, _ = server.ended()
-        must((status, out) == (0, ""), f"the server ends with (status, output) {(status, out)}")
+        server.ends()
 
 
 @pytest.mark.long
@@ -220,7 +204,7 @@ def test_taken_answers(folder):
         waited = sips(taking, 2 * SLOWEST, lambda: comes(other), most=1 << 14)
         must(waited >= 2 * SLOWEST, f"a client that takes up to 32 KiB a second lost its worker behind {waited:.1f} s")
         taking.close()
-        is_next(other)
+        is_next(other, BEHIND)
 
 
 @pytest.mark.long
@@ -248,15 +232,14 @@ def drips(session, line, pause):
     return False
 
 
-def gives_up(server, slow, end):
+def gives_up(server, end):
     """That a session gives the only worker up to another one, behind half a minute; `end` tells whether it was ended."""
     with Session(server.port, LATEST) as other:
         other.send(spelled(ASKED))
-        begin = time.monotonic()
-        must(end(), "a client whose line does not end has its worker still")
-        waited = time.monotonic() - begin
-        must(SLOWEST - 3 <= waited < SLOWEST + 15, f"a client whose line does not end gave its worker up after {waited:.1f} s")
-        must(other.answer() == NO, "the one that waited is answered otherwise, or the line was made")
+        with lasting("a client whose line does not end has its worker", SLOWEST - 3, SLOWEST + 15):
+            must(end(), "a client whose line does not end has its worker still")
+        # The line was not made.
+        is_next(other, NO)
         is_answered(other)
 
 
@@ -266,7 +249,7 @@ def test_dripped_line(folder):
     with Server(folder, workers=1, idle=10) as server, Session(server.port) as slow:
         is_answered(slow)
         slow.send(spelled(write("+doc:a#viewer@ann"))[:-1])
-        gives_up(server, slow, lambda: drips(slow, b" " * 100, 0.7))
+        gives_up(server, lambda: drips(slow, b" " * 100, 0.7))
 
 
 @pytest.mark.long
@@ -276,8 +259,8 @@ def test_silent_line(folder):
         is_answered(slow)
         # With a whole line in the same bytes, behind which the half one begins.
         slow.send(spelled(ASKED) + spelled(write("+doc:a#viewer@ann"))[:-1])
-        must(slow.answer() == NO, "a line with half of the next one behind it is answered otherwise")
-        gives_up(server, slow, slow.is_ended)
+        is_next(slow, NO)
+        gives_up(server, slow.is_ended)
 
 
 @pytest.mark.long
@@ -287,7 +270,7 @@ def test_unhurried_line(folder):
     with Server(folder, workers=1, idle=10) as server, Session(server.port) as slow:
         must(not drips(slow, line[:-1], 1), "a client that sends a byte now and then is cut, and nobody waits")
         slow.send(line[-1:])
-        must(slow.answer() == NO, "a line that took its time is answered otherwise")
+        is_next(slow, NO)
 
 
 def test_resets(folder):
@@ -309,12 +292,9 @@ def test_idle_sessions(folder):
         is_answered(idle)
         time.sleep(3)
         is_answered(idle)
-        begin = time.monotonic()
-        with Session(server.port) as other:
+        with lasting("a session that was asked something has its worker", 0.5), Session(server.port) as other:
             is_answered(other)
             must(idle.is_ended(), "the idle session goes on, and there is one worker")
-        waited = time.monotonic() - begin
-        must(waited >= 0.5, f"a session that was asked something gave its worker up after {waited:.1f} s")
 
 
 def test_paused_lines(folder):
@@ -324,14 +304,12 @@ def test_paused_lines(folder):
         paused.send(asked[:20])
         time.sleep(3)
         paused.send(asked[20:])
-        must(paused.answer() == NO, "a line that came in two pieces is answered otherwise")
+        is_next(paused, NO)
         paused.send(half)
-        begin = time.monotonic()
         with Session(server.port) as other:
-            is_answered(other)
-            waited = time.monotonic() - begin
             # Less than where `--idle` is not given.
-            must(0.5 <= waited < 8, f"a client gave its worker up {waited:.1f} s behind half a line")
+            with lasting("a client has its worker behind half a line", 0.5, 8):
+                is_answered(other)
             must(paused.lines.read() == b"", "half a line is answered")
             is_answered(other)
 
@@ -351,9 +329,9 @@ def test_busy_sessions(folder):
                 time.sleep(0.7)
                 busy.send(line[at : at + 1])
             busy.send(line[8:])
-            must(busy.answer() == NO, "a line that came byte by byte is answered otherwise")
+            is_next(busy, NO)
             busy.close()
-            must(other.answer() == NO, "the one that waited is answered otherwise")
+            is_next(other, NO)
 
 
 def test_counted(folder):
@@ -368,14 +346,13 @@ def test_counted(folder):
         is_answered(sessions[1])
         for session in sessions[1:]:
             session.close()
-        status, out, err = server.ended()
-        must((status, out) == (0, "") and is_beginning(err, folder, SHARDS, server.port), f"ends with (status, output, error) {(status, out, err)}")
+        must(is_beginning(server.ends(), folder, SHARDS, server.port), "tells something else")
     with Server(folder, workers=1, connections=3) as server:
         # All are there at once, and each has the worker once the one before it has left.
         sessions = [Session(server.port) for _ in range(3)]
         for session in sessions:
             is_answered(session)
             session.close()
-        must(server.ended()[:2] == (0, ""), "with one worker it ends otherwise")
+        server.ends()
     with Server(folder) as server, Session(server.port) as session:
         is_answered(session)

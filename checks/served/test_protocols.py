@@ -1,5 +1,6 @@
 """Connections of other protocols: a web page, or a client of TLS, can not write."""
-from judge.worlds import must
+import contextlib
+
 from serving.server import Server
 from test_talking import BAD_REQUEST
 from serving.wire import Session, check, is_told, read, spelled, token, write
@@ -24,13 +25,10 @@ def took(session):
 def writes_nothing(server, *parts):
     """A connection over which these bytes come is ended, and nothing is answered."""
     with Session(server.port) as session:
-        try:
+        with contextlib.suppress(OSError):
             for part in parts:
                 session.socket.sendall(part)
-        except OSError:
-            pass
-        found = took(session)
-        must(found == b"", f"answers {found[:80]} to {b''.join(parts)[:20]}")
+        assert took(session) == b"", parts[0][:20]
 
 
 def test_other_protocols(folder):
@@ -55,8 +53,7 @@ def test_own_protocol(folder):
                     for part in parts:
                         session.send(part)
                     session.end()
-                    found = took(session)
-                    must(found == (BAD_REQUEST + b"\n") * count, f"answers {found[:80]} to {first}")
+                    assert took(session) == (BAD_REQUEST + b"\n") * count, first
         with Session(server.port) as session:
             is_told(session, check("doc:payroll#viewer@mallory"), {"member": False, "zookie": token(0)})
 
@@ -67,4 +64,4 @@ def test_half_a_method(folder):
         silent.send(b"PO")
         with Session(server.port) as other:
             is_told(other, check("doc:a#viewer@ann"), {"member": False, "zookie": token(0)})
-            must(took(silent) == b"", "half of a method is answered")
+            assert took(silent) == b"", "half of a method is answered"

@@ -28,14 +28,12 @@ def test_killed(folder):
         first.kill()
         must(session.is_ended(), "a session of a killed server goes on")
     with Server(folder, port=port) as second, Session(port) as session:
-        line = second.told()
-        must(is_start(line, folder, SHARDS, 0, COUNT), f"tells of its start: {line}")
+        assert is_start(second.told(), folder, SHARDS, 0, COUNT)
         rows = [sorted(f"{space}:d{number}#viewer@ann" for number in range(1, COUNT + 1)) for space in ("doc", "pad")]
         is_told(session, read("doc@ann", "pad@ann"), {"sets": rows, "zookie": token(COUNT)})
         is_told(session, check("doc:d7#viewer@ann", exact=token(7)), {"member": True, "zookie": token(7)})
         is_told(session, check("doc:d7#viewer@ann", exact=token(6)), {"member": False, "zookie": token(6)})
         is_told(session, write("+doc:more#viewer@ann"), {"zookie": token(COUNT + 1)})
-        second.kill()
 
 
 def writes_on(port, told, faults):
@@ -43,8 +41,7 @@ def writes_on(port, told, faults):
     try:
         with Session(port) as session:
             for number in range(1, 1000000):
-                answer = session.ask(write(f"+doc:d{number}#viewer@ann"))
-                must(answer == {"zookie": token(number)}, f"answers {answer} to write {number}")
+                is_told(session, write(f"+doc:d{number}#viewer@ann"), {"zookie": token(number)})
                 told.append(number)
     except Gone:
         pass
@@ -64,13 +61,12 @@ def test_killed_writing(folder):
         time.sleep(random.uniform(0, 0.01))
         first.kill()
         writer.join()
-    must(not faults, f"the writer ended before the server: {faults}")
-    must(told, "no write was answered")
+    assert not faults and told
     with Server(folder) as second, Session(second.port) as session:
         answer = session.ask(read("doc@ann"))
         last = place_of(answer)
-        must(last - len(told) in (0, 1), f"{len(told)} were answered, and the last place is {last}")
-        must(sorted(answer["sets"][0]) == sorted(f"doc:d{number}#viewer@ann" for number in range(1, last + 1)), "reads other tuples than were written")
+        assert last - len(told) in (0, 1)
+        assert sorted(answer["sets"][0]) == sorted(f"doc:d{number}#viewer@ann" for number in range(1, last + 1))
 
 
 def test_followed(folder):
@@ -110,8 +106,7 @@ def test_full_disk(folder):
         errors = [error for _, error in refused]
         must(errors[0] in (12, 13) and {*errors[1:]} == {13}, f"refused {refused[:5]} and at last {refused[-1]}")
         with Session(server.port) as other:
-            answer = other.ask(write("+doc:more#viewer@ann"))
-            must(answer == refusal(13, "Down"), f"answers {answer} to another session")
+            is_told(other, write("+doc:more#viewer@ann"), refusal(13, "Down"))
         must(server.goes_on(), "the server has ended")
         server.begins(folder)
         must(untimed(server.told()) == DOWN_LINE, "standard error does not tell that the coordinator is down")
@@ -194,7 +189,7 @@ def test_narrow_window(folder):
         for number in range(1, COUNT + 1):
             is_told(session, write(f"+doc:d{number % 5}#viewer@u{number}"), {"zookie": token(number)})
             answer = session.ask(check("doc:d1#viewer@u1", exact=token(1)))
-            must(answer in (refusal(8, "Collected"), {"member": True, "zookie": token(1)}), f"answers {answer} of place 1")
+            assert answer in (refusal(8, "Collected"), {"member": True, "zookie": token(1)})
         is_told(session, check("doc:d1#viewer@u1", at_least=token(1)), {"member": True, "zookie": token(COUNT)})
     with Server(folder, window=0) as server, Session(server.port) as session:
         # The horizon follows once the first round of cares is made.

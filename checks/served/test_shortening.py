@@ -2,6 +2,7 @@
 import os
 import re
 import time
+from pathlib import Path
 
 import pytest
 
@@ -91,9 +92,8 @@ def test_shortened(folder):
             place += 1
             is_told(session, write("+" + rows[0], "-" + rows[1]), {"zookie": token(place)})
         must(max(lengths(folder, "b")) <= SHORT, f"checkpoints of {CHANGES} tuples and {WINDOW} writes, and 10 writes, have {lengths(folder, 'b')} bytes")
-        told = session.ask(watch(token(before), "doc"))
-        must(told == {"events": listed(before + 1, place, *changes), "heartbeat": token(place)}, f"a watch tells {str(told)[:300]}")
-        first.kill()
+        told = {"events": listed(before + 1, place, *changes), "heartbeat": token(place)}
+        is_told(session, watch(token(before), "doc"), told)
     # With a window so wide its first round lets nothing more go.
     with Server(folder, window=ROUND) as second, Session(second.port) as session:
         is_told(session, read(f"doc:{NAME}"), {"sets": [[row for row in rows if row != rows[1]]], "zookie": token(place)})
@@ -102,7 +102,6 @@ def test_shortened(folder):
         is_told(session, watch(token(1), "doc"), refusal(8, "Collected"))
         is_told(session, read(f"doc:{NAME}", exact=token(1)), refusal(8, "Collected"))
         is_told(session, write("+" + rows[1]), {"zookie": token(place + 1)})
-        second.kill()
 
 
 def many_tuples(place, name=NAME):
@@ -128,12 +127,10 @@ def test_left_as_it_is(folder):
     """nodes that are opened with more than 2 MiB make no checkpoint where the horizon was never raised: it would forget nothing"""
     with Server(folder) as first, Session(first.port) as session:
         place = grow(session, folder)
-        first.kill()
     with Server(folder) as second, Session(second.port) as session:
         time.sleep(QUIET)
-        must(not any(map(begins_checkpoint, banks(folder, "b"))), f"a checkpoint of {lengths(folder, 'a')} bytes behind the start")
+        assert not any(map(begins_checkpoint, banks(folder, "b"))), f"a checkpoint of {lengths(folder, 'a')} bytes behind the start"
         is_told(session, write("+" + tuples()[0]), {"zookie": token(place + 1)})
-        second.kill()
 
 
 def test_not_again(folder):
@@ -145,21 +142,17 @@ def test_not_again(folder):
             place += 1
             touch_many(session, place)
             time.sleep(QUIET if place % ROUND == 0 else 0)
-        first.kill()
-    left = [os.path.getsize(bank) for bank in (banks(folder, "a")[0], banks(folder, "b")[0])]
-    must(min(left) > LIMIT, f"files of {left} bytes")
+    assert min(lengths(folder, "a")[0], lengths(folder, "b")[0]) > LIMIT
     with Server(folder, window=WINDOW) as second, Session(second.port) as session:
         is_told(session, write("+" + tuples()[0]), {"zookie": token(place + 1)})
         time.sleep(4 * QUIET)
-        must(not begins_checkpoint(banks(folder, "a")[0]), "a checkpoint of a checkpoint behind the start")
-        second.kill()
+        assert not begins_checkpoint(banks(folder, "a")[0]), "a checkpoint of a checkpoint behind the start"
 
 
 def gives_room(folder, file, more):
     """From now on the files of the folder may have so many bytes more than they have."""
     has = sum(entry.stat().st_size for entry in os.scandir(folder))
-    with open(file + ".new", "w") as new:
-        new.write(str(has + more))
+    Path(file + ".new").write_text(str(has + more))
     os.replace(file + ".new", file)
 
 
@@ -168,19 +161,12 @@ def calls_round(session):
     is_told(session, write("+doc:none#viewer@ann", conditions=[{"tuple": "doc:none#viewer@ann", "want": "exists"}]), refusal(9, "Precondition"))
 
 
-def without_time(line):
-    """A line of standard error without its time, or an empty one, which is that none was told."""
-    return line and untimed(line)
-
-
 def is_put_off(server, name):
     """The next line says that this node's checkpoint is put off, but for one that says so of the coordinator's."""
-    line = server.told()
-    if (found := NO_ROOM.fullmatch(without_time(line))) and found[1] != name:
-        line = server.told()
-    found = NO_ROOM.fullmatch(without_time(line))
-    must(found and found[1] == name, f"tells {line!r}, and not that the checkpoint of {name} is put off")
-    must(int(found[2]) > LITTLE, f"has no room for {found[2]} bytes")
+    found = NO_ROOM.fullmatch(untimed(server.told()))
+    if found[1] != name:
+        found = NO_ROOM.fullmatch(untimed(server.told()))
+    assert found[1] == name and int(found[2]) > LITTLE, found[0]
 
 
 def writes_beside(session, place):
@@ -210,7 +196,7 @@ def test_put_off(folder):
         is_put_off(first, f"shard {shard}")
         calls_round(session)
         time.sleep(2)
-        must(not begins_checkpoint(banks(store, "b")[0]), "a checkpoint was made without room")
+        assert not begins_checkpoint(banks(store, "b")[0]), "a checkpoint was made without room"
         place += 1
         is_told(session, write("+" + rows[0]), {"zookie": token(place)})
         is_told(session, read(f"doc:{NAME}"), {"sets": [rows], "zookie": token(place)})
@@ -229,4 +215,3 @@ def test_put_off(folder):
     with Server(store, window=WINDOW) as second, Session(second.port) as session:
         is_told(session, read(f"doc:{NAME}"), {"sets": [rows], "zookie": token(place)})
         is_told(session, write("-" + rows[0]), {"zookie": token(place + 1)})
-        second.kill()

@@ -7,11 +7,12 @@ import signal
 import socket
 import subprocess
 import time
+from pathlib import Path
 
 from folders import apart, contents, empty
 from imaging.format import STRETCH, Rules, bodies_of
 from judge.worlds import must
-from libraries import built_library
+from libraries import holding
 from serving.server import HOST, SHARDS, STORE, Server, free_port, is_start, limit, program, run, untimed, waits, without_progress, words_of
 from serving.wire import Gone, Session, check, is_told, read, refusal, token, write
 
@@ -35,14 +36,6 @@ def refused(wanted, given, about=None):
 
 def damaged(node):
     return f"the files of {'the coordinator' if node == 'c' else f'shard {node}'} are damaged"
-
-
-def makes_files(folder, *changes):
-    """Leaves the files of a store in the folder."""
-    with Server(folder) as server, Session(server.port) as session:
-        for change in changes:
-            answer = session.ask(write(change))
-            must("zookie" in answer, f"answers {answer} to a touch")
 
 
 def is_status_2(*words):
@@ -77,8 +70,7 @@ def test_no_folder(folder):
     """a folder that is not there, or is none: `13 Down`"""
     none, file = os.path.join(folder, "none"), os.path.join(folder, "file")
     refused(DOWN, options(none), f"{none}: No such file or directory")
-    with open(file, "w"):
-        pass
+    open(file, "w").close()
     refused(DOWN, options(file), f"{file}: is no folder")
 
 
@@ -99,10 +91,8 @@ def life(folder, *changes, **more):
     """A server that ends behind one session, which makes this write: in a last round each shard has learned it, so nothing is left to do."""
     with Server(folder, connections=1, **more) as server:
         with Session(server.port) as session:
-            answer = session.ask(write(*changes))
-            must("zookie" in answer, f"answers {answer} to {changes}")
-        status, out, err = server.ended()
-        must((status, out) == (0, ""), f"ends with (status, output, error) {(status, out, err)}")
+            assert "zookie" in session.ask(write(*changes))
+        server.ends()
 
 
 def test_second_server(folder):
@@ -112,8 +102,7 @@ def test_second_server(folder):
         # Nothing is left to do and nobody writes, so the first one has written all that it does.
         before = contents(folder)
         refused(DOWN, options(folder), f"{folder}/c.a: is in use by another process")
-        changed = {name for name, _ in before.items() ^ contents(folder).items()}
-        must(not changed, f"a second server changes the files {sorted(changed)}")
+        assert contents(folder) == before, "a second server changes files"
         is_told(session, check("doc:a#viewer@ann"), {"member": True, "zookie": token(1)})
         is_told(session, write("+doc:b#viewer@ann"), {"zookie": token(2)})
     finds(folder, "doc:a#viewer@ann")
@@ -121,24 +110,17 @@ def test_second_server(folder):
 
 
 def spoil(path, at):
-    with open(path, "r+b") as file:
-        file.seek(at)
-        byte = file.read(1)
-        must(byte, f"{os.path.basename(path)} ends before byte {at}")
-        file.seek(at)
-        file.write(bytes([byte[0] ^ 0x55]))
+    content = bytearray(Path(path).read_bytes())
+    content[at] ^= 0x55
+    Path(path).write_bytes(content)
 
 
 def put_behind(path, of):
     """Puts other bytes behind the closed gate of the file, `of` as many as there were."""
-    with open(path, "r+b") as file:
-        content = file.read()
-        _, end = bodies_of(Rules(), content)
-        begin = end + 1
-        must(len(content) % STRETCH == 0 and begin < len(content), f"{os.path.basename(path)} has {len(content)} bytes, {begin} of them of its list")
-        file.truncate(begin)
-        file.seek(begin)
-        file.write(of(len(content) - begin))
+    content = Path(path).read_bytes()
+    begin = bodies_of(Rules(), content)[1] + 1
+    assert len(content) % STRETCH == 0 and begin < len(content)
+    Path(path).write_bytes(content[:begin] + of(len(content) - begin))
 
 
 def test_stretched_files(folder):
@@ -155,7 +137,7 @@ def test_stretched_files(folder):
 
 def test_damaged_files(folder):
     """a file with another byte: `16 Damaged`, and its own byte again: ready"""
-    makes_files(folder, "+doc:a#viewer@ann", "+doc:b#viewer@ann", "+doc:c#viewer@ann")
+    life(folder, "+doc:a#viewer@ann", "+doc:b#viewer@ann", "+doc:c#viewer@ann")
     # Behind the gate and the length stands the version of the first batch.
     for node in "c012":
         path = os.path.join(folder, f"{node}.a")
@@ -167,17 +149,16 @@ def test_damaged_files(folder):
 
 def finds(folder, tuple):
     with Server(folder) as server, Session(server.port) as session:
-        answer = session.ask(check(tuple))
-        must(answer.get("member") is True, f"answers {answer} to a check of {tuple}")
+        assert session.ask(check(tuple)).get("member") is True, tuple
 
 
 def test_other_stores(folder):
     """files of another number of shards, another store or another node: `16 Damaged`"""
-    makes_files(folder, "+doc:a#viewer@ann")
-    names = sorted(os.listdir(folder))
+    life(folder, "+doc:a#viewer@ann")
+    names = {*os.listdir(folder)}
     for other in ({"shards": SHARDS - 1}, {"shards": SHARDS + 1}, {"store": STORE + 1}):
         refused(DAMAGED, options(folder, **other), f"{folder} is of store {STORE} with {SHARDS} shards")
-    must(sorted(os.listdir(folder)) == names, f"makes files of another store: {sorted(os.listdir(folder))}")
+    assert {*os.listdir(folder)} == names, "makes files of another store"
     finds(folder, "doc:a#viewer@ann")
     pair = [os.path.join(folder, name) for name in ("0.a", "1.a", "other")]
     for source, target in ((0, 2), (1, 0), (2, 1)):
@@ -199,17 +180,16 @@ def remove(folder, node):
 def is_found(folder, horizon, latest, *rows):
     """A server over the folder is ready, and has just these tuples, and these places."""
     with Server(folder) as server, Session(server.port) as session:
-        line = server.told()
-        must(is_start(line, folder, SHARDS, horizon, latest), f"tells of its start: {line}")
+        assert is_start(server.told(), folder, SHARDS, horizon, latest)
         is_told(session, read("doc@ann"), {"sets": [list(rows)], "zookie": token(latest)})
 
 
 def lacks_shard(folder):
     """Where the coordinator has forgotten nothing, a server does not start without what shard 1 had, whether its files are gone or empty."""
     remove(folder, 1)
-    names = sorted(os.listdir(folder))
+    names = {*os.listdir(folder)}
     refused(DAMAGED, options(folder), f"{folder}/1.a: is missing")
-    must(sorted(os.listdir(folder)) == names, f"makes files beside those of a store: {sorted(os.listdir(folder))}")
+    assert {*os.listdir(folder)} == names, "makes files beside those of a store"
     empty(folder, "1.a", "1.b")
     refused(DAMAGED, options(folder), damaged(1))
 
@@ -243,27 +223,21 @@ def test_mixed_files(folder):
 
 def test_existing_store(folder):
     """`--existing` in a folder without a store: `13 Down`, and nothing is made; with one: ready"""
-    status, out, err = run("serve", *words_of(options(folder)), "--existing")
-    must((status, out, err) == (1, "", f"{DOWN}zanstore: {folder}: has no store\n"), f"is (status, output, error) {(status, out, err)}")
-    must(not os.listdir(folder), f"makes {os.listdir(folder)}")
+    assert run("serve", *words_of(options(folder)), "--existing") == (1, "", f"{DOWN}zanstore: {folder}: has no store\n")
+    assert not os.listdir(folder)
     # What a start leaves that was cut off while it made its files, or a resharding before any of them had an open gate.
     for left in (b"", b"\0" * 65536):
-        with open(os.path.join(folder, "c.a"), "wb") as file:
-            file.write(left)
+        Path(folder, "c.a").write_bytes(left)
         must(run("serve", *words_of(options(folder)), "--existing")[0] == 1, f"takes a file of {len(left)} bytes, which keeps nothing, for a store")
     with Server(folder) as server:
-        line = server.told()
-        must(is_start(line, folder, SHARDS, 0, 0), f"tells of a new store: {line}")
-    words = ["serve", *words_of(options(folder, connections=1)), "--existing"]
-    with subprocess.Popen([program(), *words], stdin=subprocess.DEVNULL, stdout=subprocess.PIPE, stderr=subprocess.PIPE, text=True) as child:
-        line, told = child.stdout.readline(), next(filter(None, map(without_progress, child.stderr)))
-        child.kill()
-    must(line == "ready\n" and f"zanstore: {folder}: {SHARDS} shards, places 0 to 0, opened in " in untimed(told), f"prints {line}{told}")
+        assert is_start(server.told(), folder, SHARDS, 0, 0)
+    with Server(folder, flags=["--existing"]) as server:
+        assert f"zanstore: {folder}: {SHARDS} shards, places 0 to 0, opened in " in untimed(server.told())
 
 
 def test_told_causes(folder):
     """the file that can't be opened, and why: `13 Down`"""
-    makes_files(folder, "+doc:a#viewer@ann")
+    life(folder, "+doc:a#viewer@ann")
     path, other = os.path.join(folder, "1.b"), os.path.join(folder, "other")
     os.rename(path, other)
     os.symlink("other", path)
@@ -318,8 +292,7 @@ def test_long_opening(folder):
     # The only shard's first sync behind the making of its files, which takes the other call, waits two seconds for that of another one.
     note = folder + ".held"
     open(note, "w").close()
-    held = {"LD_PRELOAD": built_library("hold_syncs"), "HOLD_FOLDER": os.path.realpath(folder), "HOLD_FILE": note, "HOLD_ONLY": "fdatasync", "HOLD_SECONDS": "2"}
-    with Server(folder, environment=held, shards=1) as server:
+    with Server(folder, environment=holding(folder, note, HOLD_ONLY="fdatasync", HOLD_SECONDS="2"), shards=1) as server:
         first = server.next_line(server.child.stderr).decode()
         then = server.told()
     must(re.fullmatch(re.escape(f"zanstore: {folder}: being opened, for ") + "[1-9] s so far\n", untimed(first)) is not None, f"tells {first!r} after a second")

@@ -6,9 +6,9 @@ from pathlib import Path
 
 from judge.worlds import must
 from request_rows import is_refused_before, rows
-from libraries import built_library
+from libraries import holding
 from serving.server import LIMIT, Server, is_beginning, run, waits
-from serving.wire import Session, check, delete, is_told, place_of, read, refusal, spelled, token, touch, watch, write
+from serving.wire import Session, check, delete, is_next, is_told, place_of, read, refusal, spelled, token, touch, watch, write
 
 GROUP = "servers"
 MAX_LINE = 262144
@@ -55,10 +55,8 @@ def test_loopback(folder):
         with Session(server.port) as session:
             is_line(session, *SECOND)
             ends_with(session, b"", b"")
-        status, out, err = server.ended()
-        must((status, out) == (0, "") and is_beginning(err, folder, 2, server.port), f"ends with (status, output, error) {(status, out, err)}")
-    found = run("dump", "--dir", folder, "--store", "1", "--shards", "2")
-    must(found == (0, DUMPED, ""), f"a dump has (status, output, error) {found}, and not {(0, DUMPED, '')}")
+        assert is_beginning(server.ends(), folder, 2, server.port)
+    assert run("dump", "--dir", folder, "--store", "1", "--shards", "2") == (0, DUMPED, "")
 
 
 def test_each_request(folder):
@@ -88,7 +86,7 @@ def test_each_request(folder):
 def test_refused_lines(folder):
     """each refused line of checks/request_lines.tsv"""
     refused = [row for row in rows() if is_refused_before(row[0])]
-    must(len(refused) > 250, f"there are {len(refused)} rows")
+    assert len(refused) > 250
     with Server(folder, store=1) as server:
         for _, given, wanted in refused:
             with Session(server.port) as session:
@@ -103,13 +101,11 @@ def test_fresh_reads(folder):
     """a touch over one connection, and a read and a check over another, at least as new as its token"""
     with Server(folder) as server, Session(server.port) as first, Session(server.port) as second:
         for number in range(1, 101):
-            tuple = f"doc:d{number}#viewer@ann"
-            told = first.ask(write("+" + tuple))
-            must(told == {"zookie": token(number)}, f"answers {told} to touch {number}")
-            asked = read(f"doc:d{number}", at_least=told["zookie"]) if number % 2 else check(tuple, at_least=told["zookie"])
-            answer = second.ask(asked)
-            must(answer.get("sets") == [[tuple]] or answer.get("member") is True, f"answers {answer} to {asked}")
-            must(place_of(answer) >= number, f"answers at place {place_of(answer)}, and the touch is at {number}")
+            tuple, place = f"doc:d{number}#viewer@ann", token(number)
+            is_told(first, write("+" + tuple), {"zookie": place})
+            answer = second.ask(read(f"doc:d{number}", at_least=place) if number % 2 else check(tuple, at_least=place))
+            assert answer.get("sets") == [[tuple]] or answer.get("member") is True
+            assert place_of(answer) >= number
 
 
 def test_two_sessions(folder):
@@ -126,8 +122,7 @@ def met(folder, workers):
     """`both`, where two writes of different shards are within their first syncs at the same time, or `late`; and their answers."""
     os.mkdir(folder)
     note = folder + ".held"
-    held = {"LD_PRELOAD": built_library("hold_syncs"), "HOLD_FOLDER": os.path.realpath(folder), "HOLD_FILE": note}
-    with Server(folder, environment=held, shards=2, workers=workers) as server, Session(server.port) as first:
+    with Server(folder, environment=holding(folder, note), shards=2, workers=workers) as server, Session(server.port) as first:
         open(note, "w").close()
         first.send(spelled(write("+doc:b#viewer@ann")))
         with Session(server.port) as second:
@@ -135,16 +130,14 @@ def met(folder, workers):
             answers = [first.answer()]
             first.close()
             answers.append(second.answer())
-    with open(note) as file:
-        return file.read(), answers
+    return Path(note).read_text(), answers
 
 
 def test_two_inside(folder):
     """two writes of different shards are inside at once: neither's first sync ends before the other's is reached; with one worker it is late"""
     for workers, wanted in ((2, "both\n"), (1, "late\n")):
         found, answers = met(os.path.join(folder, str(workers)), workers)
-        must(sorted(map(place_of, answers)) == [1, 2], f"answers {answers}")
-        must(found == wanted, f"with {workers} workers the syncs are reached {found!r}, and not {wanted!r}")
+        assert sorted(map(place_of, answers)) == [1, 2] and found == wanted, f"{workers} workers"
 
 
 def is_answered(session):
@@ -166,7 +159,7 @@ def answered_beside(held, other, release):
     is_told(other, read("doc:b", at_least=token(2)), {"sets": before, "zookie": token(2)})
     must(not is_answered(held), "the write is answered, whose flush is held")
     release()
-    must(held.answer() == {"zookie": token(3)}, "the write whose flush was held is answered otherwise")
+    is_next(held, {"zookie": token(3)})
     is_told(other, read("doc:b"), {"sets": after, "zookie": token(3)})
 
 
@@ -176,7 +169,7 @@ def waits_behind(held, other, release):
     time.sleep(1)
     must(not is_answered(other), "a second session is answered, though the only worker is held")
     release()
-    must(held.answer() == {"zookie": token(2)}, "the write whose flush was held is answered otherwise")
+    is_next(held, {"zookie": token(2)})
     held.close()
     must(place_of(other.answer()) == 2, "a read behind the write is not of its place")
 
@@ -187,7 +180,7 @@ def test_beside_a_flush(folder):
         within = os.path.join(folder, str(workers))
         os.mkdir(within)
         note, go = within + ".held", within + ".go"
-        held = {"LD_PRELOAD": built_library("hold_syncs"), "HOLD_FOLDER": os.path.realpath(within), "HOLD_FILE": note, "HOLD_UNTIL": go}
+        held = holding(within, note, HOLD_UNTIL=go)
         with Server(within, environment=held, shards=2, workers=workers) as server, Session(server.port) as first:
             is_told(first, write("+doc:b#viewer@bob"), {"zookie": token(1)})
             open(note, "w").close()
@@ -207,12 +200,10 @@ def test_lines_ahead(folder):
         session.send(b"{}\n")
         session.end()
         for number in range(count):
-            at = token(number + 1)
-            for wanted in ({"zookie": at}, {"member": number % 3 != 0, "zookie": at}):
-                answer = session.answer()
-                must(answer == wanted, f"answers {answer}, and not {wanted}")
-        must(session.answer() == refusal(1, "BadRequest"), "answers something else to the last line")
-        must(session.is_ended(), "does not end where its client has ended")
+            is_next(session, {"zookie": token(number + 1)})
+            is_next(session, {"member": number % 3 != 0, "zookie": token(number + 1)})
+        is_next(session, refusal(1, "BadRequest"))
+        assert session.is_ended(), "does not end where its client has ended"
 
 
 def seconds_of(session, count, ahead):
@@ -230,7 +221,7 @@ def test_ahead_is_faster(folder):
     with Server(folder) as server, Session(server.port) as session:
         tries = [(seconds_of(session, 1000, 1), seconds_of(session, 1000, 100)) for _ in range(3)]
         alone, ahead = (min(times) for times in zip(*tries))
-        must(ahead < alone, f"1,000 checks take {ahead:.3f} s where they are sent ahead, and {alone:.3f} s one at a time")
+        assert ahead < alone
 
 
 def test_half_lines(folder):
@@ -241,10 +232,7 @@ def test_half_lines(folder):
             with Session(server.port) as session:
                 session.send(half)
         with Session(server.port) as session:
-            session.send(half)
-            session.end()
-            must(session.answer() == refusal(1, "BadRequest"), "does not refuse bytes behind the last line feed")
-            must(session.is_ended(), "does not end")
+            ends_with(session, half, BAD_REQUEST + b"\n")
         with Session(server.port) as session:
             is_told(session, read("doc:half"), {"sets": [[]], "zookie": token(0)})
 
@@ -255,7 +243,7 @@ def test_slow_lines(folder):
     with Server(folder) as server, Session(server.port) as session:
         for at in range(len(line)):
             session.send(line[at : at + 1])
-        must(session.answer() == {"zookie": token(1)}, "answers something else")
+        is_next(session, {"zookie": token(1)})
 
 
 def test_long_lines(folder):
@@ -264,11 +252,9 @@ def test_long_lines(folder):
     whole = {"member": False, "zookie": token(0)}
     with Server(folder) as server, Session(server.port) as session:
         for length, wanted in ((MAX_LINE, whole), (MAX_LINE + 1, TOO_LARGE), (MAX_LINE, whole), (3 * MAX_LINE, TOO_LARGE)):
-            session.send(line + b" " * (length - len(line)) + b"\n")
-            answer = session.answer()
-            must(answer == wanted, f"answers {answer} to a line of {length} bytes, and not {wanted}")
+            session.send(line.ljust(length) + b"\n")
+            is_next(session, wanted, f"a line of {length} bytes")
         for length, wanted in ((MAX_LINE, refusal(1, "BadRequest")), (MAX_LINE + 1, TOO_LARGE)):
             session.send(b" " * length + b"\n")
-            answer = session.answer()
-            must(answer == wanted, f"answers {answer} to {length} spaces, and not {wanted}")
+            is_next(session, wanted, f"{length} spaces")
         is_told(session, check("doc:a#viewer@ann"), whole)

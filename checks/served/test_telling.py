@@ -11,11 +11,11 @@ import time
 import pytest
 
 from judge.worlds import Wrong, must
-from libraries import built_library
+from libraries import holding
 from test_crowding import ASKED, is_answered
 from test_restarting import DOWN_LINE, SHARD_LINE
-from serving.server import HOST, LIMIT, SHARDS, STORE, Server, free_port, program, untimed, words_of
-from serving.wire import Gone, Session, is_told, read, spelled, token, write
+from serving.server import HOST, LIMIT, SHARDS, STORE, Server, free_port, lasting, program, untimed, words_of
+from serving.wire import Gone, Session, is_next, is_told, read, spelled, token, write
 from test_talking import meets
 
 GROUP = "servers"
@@ -26,9 +26,8 @@ MINUTE = 60
 PIDFD_GETFD = 438
 
 
-def is_next(server, wanted):
-    line = server.told()
-    must(untimed(line) == wanted, f"tells {line!r}, and not {wanted!r}")
+def tells(server, wanted):
+    assert untimed(server.told()) == wanted
 
 
 def test_taken_workers(folder):
@@ -39,7 +38,7 @@ def test_taken_workers(folder):
         for holder in holders:
             is_answered(holder)
         waiting = [Session(server.port) for _ in range(3)]
-        is_next(server, "zanstore: 2 workers are taken, 3 connections wait\n")
+        tells(server, "zanstore: 2 workers are taken, 3 connections wait\n")
         time.sleep(3)
         for holder in holders:
             holder.close()
@@ -65,33 +64,24 @@ def test_few_descriptors(folder):
     with Server(folder, descriptors=64) as server:
         server.begins(folder)
         made = crowd(server.port, 500)
-        is_next(server, REFUSED)
+        tells(server, REFUSED)
         # Past 1,024 tries of which none was paused for more than 10 milliseconds.
         time.sleep(12)
         for one in made:
             one.close()
-        begin = time.monotonic()
-        with Session(server.port) as session:
+        with lasting("an answer behind the last of 500 connections", most=10), Session(server.port) as session:
             is_answered(session)
-        waited = time.monotonic() - begin
-        must(waited < 10, f"answers {waited:.1f} s behind the last of 500 connections")
-        is_last_but_crowded(server)
-
-
-def is_last_but_crowded(server):
-    """Nothing more is told until it is killed but that its workers are taken."""
-    server.child.kill()
-    rest = server.child.stderr.read().decode().splitlines(keepends=True)
-    must(len(rest) <= 1 and all(re.fullmatch("zanstore: 4 workers are taken, [0-9]+ connections wait\n", untimed(line)) for line in rest), f"standard error goes on: {rest}")
+        # Nothing more is told until it is killed but that its workers are taken.
+        server.child.kill()
+        rest = server.child.stderr.read().decode()
+        assert not rest or re.fullmatch("zanstore: 4 workers are taken, [0-9]+ connections wait\n", untimed(rest))
 
 
 def test_port_is_told(folder):
     """`--listen 127.0.0.1:0`: the port that was chosen is told before `ready`"""
     with Server(folder, listen=f"{HOST}:0") as server:
         server.told()
-        line = server.told()
-        found = re.fullmatch(f"zanstore: listening at {HOST}:([0-9]+)\n", untimed(line))
-        must(found, f"tells {line!r}")
+        found = re.fullmatch(f"zanstore: listening at {HOST}:([0-9]+)\n", untimed(server.told()))
         with Session(int(found[1])) as session:
             is_answered(session)
 
@@ -104,7 +94,7 @@ def test_ready_is_not_taken(folder):
         guard = threading.Timer(LIMIT, child.kill)
         guard.start()
         line = next((line for line in child.stderr if "ready" in line), "")
-        must(untimed(line) == "zanstore: ready, which can't be printed: No space left on device (os error 28)\n", f"tells {line!r}")
+        assert untimed(line) == "zanstore: ready, which can't be printed: No space left on device (os error 28)\n"
         with Session(port) as session:
             is_answered(session)
         guard.cancel()
@@ -141,14 +131,11 @@ def fill(port):
 
 def ends_at_once(server, wanted):
     """It ends with status 1, and has told this."""
-    begin = time.monotonic()
-    status, out, err = server.ended()
-    waited = time.monotonic() - begin
-    must(waited < 15, f"ends after {waited:.1f} s")
-    must((status, out) == (1, ""), f"ends with (status, output, error) {(status, out, err)}")
-    lines = err.splitlines(keepends=True)
-    must(lines[-1] == wanted, f"tells at last {lines[-1:]}, and not {wanted!r}")
-    return lines[:-1]
+    with lasting("its end", most=15):
+        status, out, err = server.ended()
+    *before, last = err.splitlines(keepends=True)
+    assert (status, out, last) == (1, "", wanted), err
+    return [untimed(line) for line in before]
 
 
 def test_ends_when_down(folder):
@@ -157,8 +144,7 @@ def test_ends_when_down(folder):
         server.begins(folder)
         busy = Busy(server.port)
         fill(server.port)
-        before = ends_at_once(server, ENDED)
-        must([untimed(line) for line in before] == [SHARD_LINE], f"tells before {before}")
+        assert ends_at_once(server, ENDED) == [SHARD_LINE]
         busy.join(LIMIT)
 
 
@@ -182,8 +168,7 @@ def test_broken_listener(folder):
         busy = Busy(server.port)
         with listener_of(server.child) as listener:
             listener.shutdown(socket.SHUT_RDWR)
-        before = ends_at_once(server, "zanstore: Invalid argument (os error 22)\n")
-        must(not before, f"tells before {before}")
+        assert not ends_at_once(server, "zanstore: Invalid argument (os error 22)\n")
         busy.join(LIMIT)
 
 
@@ -195,17 +180,16 @@ def test_down_again(folder):
         fill(server.port)
         for late in (LIMIT, 2 * MINUTE):
             begin = time.monotonic()
-            line = told_within(server, late)
-            must(untimed(line) in (SHARD_LINE, DOWN_LINE), f"tells {line!r}")
+            assert untimed(server.next_line(server.child.stderr, late).decode()) in (SHARD_LINE, DOWN_LINE)
         must(time.monotonic() - begin > MINUTE - 5, "it is told again before a minute is over")
         must(server.goes_on(), "the server has ended")
 
 
 def is_disk_told(server, wanted, least, seconds):
     """The next line, within so many seconds, says this of shard 0 and its disk, and at least so many seconds."""
-    line = told_within(server, seconds)
-    found = re.fullmatch(f"zanstore: shard 0: its disk {wanted} ([0-9]+) s\n", untimed(line)) if line else None
-    must(found and least <= int(found[1]) < least + 10, f"tells {line!r}, and not that its disk {wanted} {least} s or a little more")
+    line = server.next_line(server.child.stderr, seconds).decode()
+    found = re.fullmatch(f"zanstore: shard 0: its disk {wanted} ([0-9]+) s\n", untimed(line))
+    assert found and least <= int(found[1]) < least + 10, line
 
 
 @pytest.mark.long
@@ -214,8 +198,7 @@ def test_hanging_disk(folder):
     shard is answered"""
     store, note, go = (os.path.join(folder, name) for name in ("store", "held", "go"))
     os.mkdir(store)
-    held = {"LD_PRELOAD": built_library("hold_syncs"), "HOLD_FOLDER": os.path.realpath(store), "HOLD_FILE": note, "HOLD_UNTIL": go}
-    with Server(store, environment=held) as server, Session(server.port) as first, Session(server.port) as second:
+    with Server(store, environment=holding(store, note, HOLD_UNTIL=go)) as server, Session(server.port) as first, Session(server.port) as second:
         server.begins(store)
         is_told(first, write("+doc:a#viewer@bob", "+doc:b#viewer@bob"), {"zookie": token(1)})
         is_told(second, read("doc:b", at_least=token(1)), {"sets": [["doc:b#viewer@bob"]], "zookie": token(1)})
@@ -226,14 +209,6 @@ def test_hanging_disk(folder):
             is_disk_told(server, "has not answered for", least, late)
             is_told(second, read("doc:b", exact=token(1)), {"sets": [["doc:b#viewer@bob"]], "zookie": token(1)})
         open(go, "w").close()
-        must(first.answer() == {"zookie": token(2)}, "the write whose sync was held is answered otherwise")
+        is_next(first, {"zookie": token(2)})
         is_disk_told(server, "answers again, after", 70, 20)
         server.is_silent()
-
-
-def told_within(server, seconds):
-    guard = threading.Timer(seconds, server.child.kill)
-    guard.start()
-    line = server.child.stderr.readline().decode()
-    guard.cancel()
-    return line

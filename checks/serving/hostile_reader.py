@@ -54,92 +54,62 @@ def read_json(line):
     return value
 
 
-def is_of(value, names, more=()):
-    """An object with these names, and of the others those that there are."""
-    return isinstance(value, dict) and set(names) <= set(value) <= {*names, *more}
-
-
-def are_texts(value, *names):
-    return all(isinstance(value[name], str) for name in names if name in value)
-
-
-def is_list_of(value, is_one, least=0):
-    return isinstance(value, list) and len(value) >= least and all(map(is_one, value))
-
-
-def is_text(value):
-    return isinstance(value, str)
+def are_texts(values):
+    return all(isinstance(value, str) for value in values)
 
 
 def is_change(value):
-    return is_of(value, ("op", "tuple")) and value["op"] in ("touch", "delete") and is_text(value["tuple"])
+    match value:
+        case {"op": "touch" | "delete", "tuple": str(), **more}:
+            return not more
+    return False
 
 
 def is_condition(value):
-    if is_of(value, ("tuple", "since")):
-        return are_texts(value, "tuple", "since")
-    return is_of(value, ("tuple", "want")) and is_text(value["tuple"]) and value["want"] in ("exists", "absent")
+    match value:
+        case {"tuple": str(), "since": str(), **more} | {"tuple": str(), "want": "exists" | "absent", **more}:
+            return not more
+    return False
 
 
-def no_twice(texts):
-    tuples = [read_tuple(text) for text in texts]
-    return len(set(tuples)) == len(tuples)
+def is_fresh(more):
+    return len(more) <= 1 and set(more) <= {"at_least", "exact"} and are_texts(more.values())
 
 
-def read_write(asked, store):
-    changes, conditions = asked.get("changes"), asked.get("conditions", [])
-    need(is_of(asked, ("op", "changes"), ("conditions",)) and is_list_of(changes, is_change, 1) and is_list_of(conditions, is_condition))
+def are_read(changes, conditions, store):
+    """The sizes, the texts, the tokens and the repeats of a write."""
     need(len(changes) <= CHANGES and len(conditions) <= CONDITIONS, 3)
-    for one in (*changes, *conditions):
-        read_tuple(one["tuple"])
+    tuples = [[read_tuple(one["tuple"]) for one in some] for some in (changes, conditions)]
     for one in conditions:
         if "since" in one:
             read_token(one["since"], store)
-    need(no_twice([one["tuple"] for one in changes]) and no_twice([one["tuple"] for one in conditions]), 4)
-    return "zookie"
-
-
-def is_fresh(asked):
-    return are_texts(asked, "at_least", "exact") and not {"at_least", "exact"} <= set(asked)
-
-
-def read_freshness(asked, store):
-    for name in ("at_least", "exact"):
-        if name in asked:
-            read_token(asked[name], store)
-
-
-def read_read(asked, store):
-    need(is_of(asked, ("op", "sets"), ("at_least", "exact")) and is_list_of(asked["sets"], is_text, 1) and is_fresh(asked))
-    need(len(asked["sets"]) <= SETS, 3)
-    for text in asked["sets"]:
-        read_tupleset(text)
-    read_freshness(asked, store)
-    return "sets"
-
-
-def read_check(asked, store):
-    need(is_of(asked, ("op", "tuple"), ("at_least", "exact")) and is_text(asked["tuple"]) and is_fresh(asked))
-    read_tuple(asked["tuple"])
-    read_freshness(asked, store)
-    return "member"
-
-
-def read_watch(asked, store):
-    need(is_of(asked, ("op", "from", "limit", "namespaces")) and is_text(asked["from"]) and is_list_of(asked["namespaces"], is_text, 1))
-    need(type(asked["limit"]) is int and 1 <= asked["limit"] <= LIMIT)
-    need(len(asked["namespaces"]) <= NAMESPACES, 3)
-    need(all(re.fullmatch(NAME, text) for text in asked["namespaces"]), 2)
-    read_token(asked["from"], store)
-    return "events"
-
-
-READERS = {"write": read_write, "read": read_read, "check": read_check, "watch": read_watch}
+    need(all(len(set(some)) == len(some) for some in tuples), 4)
 
 
 def kind_of(line, store=STORE):
     """Of what kind the answer is where no store refuses it. Raises `Refused`."""
     need(len(line) <= MAX_LINE, 3)
-    asked = read_json(line)
-    need(isinstance(asked, dict) and is_text(asked.get("op")) and asked["op"] in READERS)
-    return READERS[asked["op"]](asked, store)
+    match read_json(line):
+        case {"op": "write", "changes": [_, *_] as changes, **more} if all(map(is_change, changes)):
+            conditions = more.pop("conditions", [])
+            need(not more and isinstance(conditions, list) and all(map(is_condition, conditions)))
+            are_read(changes, conditions, store)
+            return "zookie"
+        case {"op": "read", "sets": [_, *_] as sets, **fresh} if are_texts(sets) and is_fresh(fresh):
+            need(len(sets) <= SETS, 3)
+            for text in sets:
+                read_tupleset(text)
+            kind = "sets"
+        case {"op": "check", "tuple": str(text), **fresh} if is_fresh(fresh):
+            read_tuple(text)
+            kind = "member"
+        case {"op": "watch", "limit": limit, "namespaces": [_, *_] as names, **fresh} if are_texts(names) and [*fresh] == ["from"]:
+            need(type(limit) is int and 1 <= limit <= LIMIT and are_texts(fresh.values()))
+            need(len(names) <= NAMESPACES, 3)
+            need(all(re.fullmatch(NAME, text) for text in names), 2)
+            kind = "events"
+        case _:
+            raise Refused(1)
+    for zookie in fresh.values():
+        read_token(zookie, store)
+    return kind

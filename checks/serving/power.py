@@ -3,6 +3,7 @@ synced nothing, a part, all, or any bytes, and any length between; and a file wh
 import os
 import struct
 from collections import Counter, defaultdict, namedtuple
+from pathlib import Path
 
 from judge.worlds import must
 from libraries import built_library
@@ -14,9 +15,7 @@ Note = namedtuple("Note", "kind number of offset length before name old new")
 
 def read_notes(path):
     """The notes of one life in their order. One that a kill has cut is skipped: what it would tell was not yet done."""
-    with open(path, "rb") as file:
-        data = file.read()
-    found, at = [], 0
+    data, found, at = Path(path).read_bytes(), [], 0
     while (at := data.find(MAGIC.to_bytes(8, "little"), at)) >= 0 and at + HEAD.size <= len(data):
         _, kind, name, number, of, offset, length, before, old = HEAD.unpack_from(data, at)
         parts = (name, old, length if kind in b"WX" else 0)
@@ -51,26 +50,16 @@ def unsynced(notes):
 
 def torn(random, note, base):
     """What the range of a write holds; `base` is what it held, with zeros where the file ended before."""
-    how = random.choice(("nothing", "all", "a part", "bytes"))
-    if how == "nothing":
-        return how, base
-    if how == "all":
-        return how, note.new
-    if how == "bytes":
-        return how, random.randbytes(note.length)
-    kind, cut = random.choice(("begins", "ends", "mixed")), random.randrange(note.length + 1)
-    if kind == "begins":
-        return how, note.new[:cut] + base[cut:]
-    if kind == "ends":
-        return how, base[:cut] + note.new[cut:]
-    return how, bytes(random.choice((one, other)) for one, other in zip(note.new, base))
+    new, cut = note.new, random.randrange(note.length + 1)
+    parts = (lambda: new[:cut] + base[cut:], lambda: base[:cut] + new[cut:], lambda: bytes(map(random.choice, zip(new, base))))
+    kinds = {"nothing": lambda: base, "all": lambda: new, "a part": random.choice(parts), "bytes": lambda: random.randbytes(note.length)}
+    how = random.choice([*kinds])
+    return how, kinds[how]()
 
 
 class File:
     def __init__(self, path):
-        self.path = path
-        with open(path, "rb") as file:
-            self.content = bytearray(file.read())
+        self.path, self.content = path, bytearray(path.read_bytes())
 
     def put(self, at, some):
         self.content.extend(bytes(max(0, at - len(self.content))))
@@ -91,9 +80,7 @@ class File:
         del self.content[length:]
 
     def save(self):
-        with open(self.path, "r+b") as file:
-            file.write(self.content)
-            file.truncate(len(self.content))
+        self.path.write_bytes(self.content)
 
 
 class Power:
@@ -117,7 +104,7 @@ class Power:
         writes, names = unsynced(notes)
         self.counts["notes"] += len(notes)
         for name, ranges in writes.items():
-            file = File(os.path.join(self.folder, name))
+            file = File(Path(self.folder, name))
             for note in reversed(ranges):
                 file.undo(note)
             for note in ranges:

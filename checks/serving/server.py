@@ -1,5 +1,7 @@
 """The server as a process: started over a folder, asked to be ready, killed, and waited for."""
+import contextlib
 import datetime
+import math
 import os
 import random
 import re
@@ -57,6 +59,15 @@ def waits(is_so, why, seconds=LIMIT):
     return found
 
 
+@contextlib.contextmanager
+def lasting(what, least=0, most=math.inf):
+    """What is done takes so many seconds."""
+    begin = time.monotonic()
+    yield
+    waited = time.monotonic() - begin
+    must(least <= waited < most, f"{what}: {waited:.1f} s, and not {least} to {most}")
+
+
 TIMED = re.compile(r"zanstore: ([0-9]{4}-[0-9]{2}-[0-9]{2}T[0-9]{2}:[0-9]{2}:[0-9]{2}Z) ")
 
 
@@ -78,15 +89,11 @@ def is_start(text, folder, shards, horizon, latest):
     return re.fullmatch(wanted + rf"[0-9]+\.[0-9]{{3}} s from [0-9]+ bytes of {2 * (shards + 1)} files; answers up to [0-9]+ MiB, window up to [0-9]+ places or [0-9]+ MiB\n", untimed(text)) is not None
 
 
-def is_listening(line, port):
-    """Whether the line is the one that tells this port."""
-    return untimed(line) == f"zanstore: listening at {HOST}:{port}\n"
-
-
 def is_beginning(text, folder, shards, port):
     """Whether a server of a new store has told just how it was opened, and its port."""
     start, listening = ["", *without_progress(text).splitlines(keepends=True)][-2:]
-    return without_progress(text) == start + listening and is_start(start, folder, shards, 0, 0) and is_listening(listening, port)
+    is_there = without_progress(text) == start + listening and is_start(start, folder, shards, 0, 0)
+    return is_there and untimed(listening) == f"zanstore: listening at {HOST}:{port}\n"
 
 
 def limit(longest, descriptors):
@@ -123,9 +130,9 @@ class Server:
     def __exit__(self, *_):
         self.kill()
 
-    def next_line(self, output):
+    def next_line(self, output, seconds=LIMIT):
         """The next line of its output or of its errors; an empty one where it ended before, or does not print one in time."""
-        guard = threading.Timer(LIMIT, self.child.kill)
+        guard = threading.Timer(seconds, self.child.kill)
         guard.start()
         line = output.readline()
         guard.cancel()
@@ -165,6 +172,12 @@ class Server:
 
     def goes_on(self):
         return self.child.poll() is None
+
+    def ends(self):
+        """That it ends by itself, with status 0 and no word but `ready`. What it told."""
+        status, out, err = self.ended()
+        must((status, out) == (0, ""), f"ends with (status, output, error) {(status, out, err)}")
+        return err
 
     def ended(self):
         """Its status, and what it printed besides `ready`, once it ended by itself."""

@@ -39,11 +39,13 @@ class Lives:
         return Server(self.folder, waits, self.power and self.power.environment(), workers=WRITERS + READERS + 2)
 
     def start(self):
-        begin, server = self.tick(), self.started(True)
+        """The seconds that it took."""
+        asked, begin, server = time.monotonic(), self.tick(), self.started(True)
         self.restarts.append(Call(begin, self.tick(), Restart("c"), None, None, None))
         with self.change:
             self.server, self.life = server, self.life + 1
             self.change.notify_all()
+        return time.monotonic() - asked
 
     def kill(self):
         if not self.server.goes_on():
@@ -115,10 +117,6 @@ class Lives:
             self.was_killed(life, gone)
 
 
-def change_of(text):
-    return Change(text[0] == "+", tuple_of(text[1:]))
-
-
 class Writer:
     """`found` has its calls; one that got no answer has its life in the place of its end."""
 
@@ -150,7 +148,8 @@ class Writer:
             code, place, end = told.get("error"), None if "error" in told else place_of(told), self.lives.tick()
         except Gone as ended:
             gone = ended
-        made = Write(tuple(map(change_of, changes)), tuple(Condition(tuple_of(one["tuple"]), one["want"]) for one in conditions))
+        asked = tuple(Change(text[0] == "+", tuple_of(text[1:])) for text in changes)
+        made = Write(asked, tuple(Condition(tuple_of(one["tuple"]), one["want"]) for one in conditions))
         self.found.append(Call(begin, end, made, code, place, None))
         self.again = (changes, is_once) if is_once and code not in (None, PRECONDITION) else None
         if not code:
@@ -228,9 +227,7 @@ def lives_on(lives, end):
 
 
 def kills(lives, seconds):
-    end, begin = time.monotonic() + seconds, time.monotonic()
-    lives.start()
-    opening = time.monotonic() - begin
+    end, opening = time.monotonic() + seconds, lives.start()
     while time.monotonic() < end and not lives.faults:
         lives_on(lives, end)
         lives.kill()
@@ -238,9 +235,7 @@ def kills(lives, seconds):
             lives.kill_opening(1.2 * opening)
         if lives.random.random() < 0.1:
             lives.dump()
-        begin = time.monotonic()
-        lives.start()
-        opening = time.monotonic() - begin
+        opening = lives.start()
 
 
 def frees(lives):

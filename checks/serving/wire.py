@@ -129,8 +129,12 @@ def refusal(number, name):
     return {"error": number, "name": name}
 
 
-def is_told(session, request, wanted):
-    """The answer, to the byte."""
-    session.send(spelled(request))
+def is_next(session, wanted, request="what it was sent"):
+    """The next answer, to the byte."""
     answer, text = session.line(), told(wanted)
     must(answer == text, f"answers {answer[:300]} to {str(request)[:200]}, and not {text[:300]}")
+
+
+def is_told(session, request, wanted):
+    session.send(spelled(request))
+    is_next(session, wanted, request)

@@ -2,7 +2,7 @@
 fault is a rule's name and a text."""
 from collections import defaultdict
 
-from judge.definitions import condition_text, tuple_text
+from judge.definitions import condition_text
 from stressing.calls import UNANSWERED, Check, Dump, Read, Restart, Watch, Write, call_text, calls_of
 
 LONGEST = 300
@@ -44,44 +44,35 @@ def far_faults(call, listed):
         yield "a place of the list", f"{line_of(call)}: the list ends at {len(listed.log)}"
 
 
-def read_faults(call, listed, history, moments):
-    yield from place_faults(call, call.asked.fresh, listed, moments)
-    if call.place <= len(listed.log):
-        rows = history.rows(call.asked.set, call.place)
-        if call.found != rows:
-            yield "the rows of a place", f"{line_of(call)}: there is {' '.join(map(tuple_text, rows))[:LONGEST]}"
-
-
-def check_faults(call, listed, history, moments):
-    yield from place_faults(call, call.asked.fresh, listed, moments)
-    if call.place <= len(listed.log) and call.found != history.is_member(call.asked.tuple, call.place):
-        yield "the membership of a place", f"{line_of(call)}: it is the other way round"
-
-
-def watch_faults(call, listed, history, moments):
-    start, limit, namespaces = call.asked
+def watch_place_faults(call, listed, moments):
+    start, limit, _ = call.asked
     if not start <= call.place <= start + limit:
         yield "a watch keeps to its limit", f"{line_of(call)}: may end from {start} to {start + limit}"
     told = min(start + limit, moments.told_before(call.begin))
     if call.place < told:
         yield "a watch goes as far as what was told", f"{line_of(call)}: may not end before {told}"
     yield from far_faults(call, listed)
-    if call.place <= len(listed.log) and call.found != history.events(start, call.place, namespaces):
-        yield "the events of the list", f"{line_of(call)}: the list has others"
 
 
-def dump_faults(call, listed, history, moments):
-    yield from place_faults(call, ("latest", None), listed, moments)
-    if call.place <= len(listed.log) and [*call.found] != sorted(history.there(history.places, call.place)):
-        yield "the tuples of a dump", f"{line_of(call)}: there are others at its place"
+# Of each kind of answer the rule of what is found, and that by the list at a place.
+FOUND = {
+    Read: ("the rows of a place", lambda history, asked, place: history.rows(asked.set, place)),
+    Check: ("the membership of a place", lambda history, asked, place: history.is_member(asked.tuple, place)),
+    Watch: ("the events of the list", lambda history, asked, place: history.events(asked.start, place, asked.namespaces)),
+    Dump: ("the tuples of a dump", lambda history, _, place: tuple(sorted(history.there(history.places, place)))),
+}
 
 
 def answer_faults(run, listed, history, moments):
     yield from write_faults(listed, history, moments)
-    for kind, rule in ((Read, read_faults), (Check, check_faults), (Watch, watch_faults), (Dump, dump_faults)):
-        for call in calls_of(run, kind):
-            if not call.code:
-                yield from rule(call, listed, history, moments)
+    for call in (call for kind in FOUND for call in calls_of(run, kind) if not call.code):
+        if isinstance(call.asked, Watch):
+            yield from watch_place_faults(call, listed, moments)
+        else:
+            yield from place_faults(call, getattr(call.asked, "fresh", ("latest", None)), listed, moments)
+        rule, found = FOUND[type(call.asked)]
+        if call.place <= len(listed.log) and call.found != (there := found(history, call.asked, call.place)):
+            yield rule, f"{line_of(call)}: there is {str(there)[:LONGEST]}"
 
 
 FUTURE, PRECONDITION, BUSY, ABORTED, UNSURE, DOWN, NO_MEMORY = 7, 9, 10, 11, 12, 13, 14

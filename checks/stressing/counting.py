@@ -10,28 +10,20 @@ LONG = 10
 ENOUGH = 200
 
 
-def counted(run, listed):
-    seen = Counter()
-    for caller in run.callers[:-1]:
-        for call in caller.calls:
-            seen[KINDS[type(call.asked)], call.code] += 1
-    seen["stood"] = sum(1 for call in listed.calls.values() if call.code)
-    seen["places"] = len(listed.log)
-    return seen
+def counted(run):
+    """How often which kind of call was told, or refused with which code."""
+    return Counter((KINDS[type(call.asked)], call.code) for caller in run.callers[:-1] for call in caller.calls)
 
 
 def refused(seen, kind):
-    texts = [f"{REFUSALS[code - 1]} {count}" for (name, code), count in sorted(of_calls(seen), key=lambda it: it[0][1] or 0) if name == kind and code]
-    return f" (refused: {', '.join(texts)})" if texts else ""
+    codes = sorted(code for name, code in seen if name == kind and code)
+    return f" (refused: {', '.join(f'{REFUSALS[code - 1]} {seen[kind, code]}' for code in codes)})" if codes else ""
 
 
-def of_calls(seen):
-    return [(key, count) for key, count in seen.items() if isinstance(key, tuple)]
-
-
-def told(seen):
+def told(seen, listed):
     """Two lines of counts."""
-    writes = f"{seen['writes', None]} writes told{refused(seen, 'writes')}, {seen['stood']} of the unsure ones stood, {seen['places']} places"
+    stood = sum(1 for call in listed.calls.values() if call.code)
+    writes = f"{seen['writes', None]} writes told{refused(seen, 'writes')}, {stood} of the unsure ones stood, {len(listed.log)} places"
     others = [f"{seen[kind, None]} {kind}{refused(seen, kind)}" for kind in ("reads", "checks", "watches", "restarts", "failures")]
     return [writes, ", ".join(others)]
 
@@ -44,5 +36,5 @@ def lacks(seen, seconds):
             yield f"only {seen[kind, None]} {kind} were told in {seconds} seconds"
     if is_long and not seen["restarts", None]:
         yield f"no node was restarted in {seconds} seconds"
-    if is_long and not any(code in (12, 13) for (_, code), _ in of_calls(seen)):
+    if is_long and not any(code in (12, 13) for _, code in seen):
         yield f"no call was refused as Unsure or Down in {seconds} seconds"

@@ -33,6 +33,8 @@ class Ground(Choosing):
         self.history, self.moments = History(listed.log), Moments(run, listed)
         self.wheres = [(at, index) for at, caller in enumerate(run.callers[:-1]) for index in range(len(caller.calls))]
         self.standing = {id(call) for call in listed.calls.values()}
+        # The last tick at which a write began that stands.
+        self.last_begun = max((call.begin for call in listed.calls.values()), default=0)
         self.namespaces = sorted({change.tuple.namespace for changes in self.log for change in changes})
 
     def call(self, where):
@@ -50,9 +52,12 @@ class Ground(Choosing):
         """A write that was refused and does not stand."""
         return self.where(kind, lambda call: call.code and id(call) not in self.standing and is_so(call))
 
+    def told_places(self):
+        """Those whose write was told."""
+        return [place for place, call in self.listed.calls.items() if not call.code]
+
     def told_place(self, is_so=lambda place: True):
-        """A place whose write was told."""
-        return self.choose(place for place, call in self.listed.calls.items() if not call.code and is_so(place))
+        return self.choose(filter(is_so, self.told_places()))
 
     def with_calls(self, where, *calls, run=None):
         at, index = where

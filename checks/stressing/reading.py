@@ -20,80 +20,62 @@ def read_event(word):
     return read_number(found[1], 1), Change(found[2] == "+", tuple_of(found[3]))
 
 
+def read_refusal(text, name):
+    code = read_number(text, 1)
+    need(code <= len(REFUSALS) and name == REFUSALS[code - 1])
+    return code
+
+
 class CallReader:
     """Reads a call's words, those behind its ticks."""
 
     def __init__(self, shards):
         self.reader = Reader(0, shards)
 
-    def call(self, begin, end, words):
-        need(words and words[0] in ("wrote", "rows", "yes", "no", "events", "refused", "restarted", "failing"))
-        kind, rest = words[0], words[1:]
-        asked, code, place, found = getattr(self, "member" if kind in ("yes", "no") else kind)(rest)
-        return Call(begin, end, asked, code, place, kind == "yes" if kind in ("yes", "no") else found)
-
-    def write(self, words):
-        _, changes, conditions = self.reader.write(words)
-        return Write(tuple(changes), tuple(conditions))
-
     def fresh(self, word):
         kind, text = self.reader.fresh(word)
         return kind, None if text is None else read_number(text)
 
-    def read(self, words):
-        need(len(words) == 2)
-        set_of(words[1])
-        return Read(self.fresh(words[0]), words[1])
+    def asked(self, words):
+        match words:
+            case ["write", *parts]:
+                _, changes, conditions = self.reader.write(parts)
+                return Write(tuple(changes), tuple(conditions))
+            case ["read", fresh, text]:
+                set_of(text)
+                return Read(self.fresh(fresh), text)
+            case ["check", fresh, text]:
+                return Check(self.fresh(fresh), tuple_of(text))
+            case ["watch", start, limit, _, *_] if all(re.fullmatch(NAME, word) for word in words[3:]):
+                need(read_number(limit, 1) <= 256)
+                return Watch(read_number(start), int(limit), tuple(words[3:]))
+        raise Refused(1)
 
-    def check(self, words):
-        need(len(words) == 2)
-        return Check(self.fresh(words[0]), tuple_of(words[1]))
-
-    def watch(self, words):
-        need(len(words) > 2 and all(re.fullmatch(NAME, word) for word in words[2:]))
-        limit = read_number(words[1], 1)
-        need(limit <= 256)
-        return Watch(read_number(words[0]), limit, tuple(words[2:]))
-
-    def wrote(self, words):
-        return self.write(words[1:]), None, read_number(words[0], 1), None
-
-    def rows(self, words):
-        need(len(words) >= 4 and words[3] == ":")
-        return self.read(words[1:3]), None, read_number(words[0]), tuple(map(tuple_of, words[4:]))
-
-    def member(self, words):
-        return self.check(words[1:]), None, read_number(words[0]), None
-
-    def events(self, words):
-        need(":" in words)
-        cut = words.index(":")
-        need(cut > 3)
-        asked = self.watch([*words[:2], *words[3:cut]])
-        return asked, None, read_number(words[2]), tuple(map(read_event, words[cut + 1 :]))
-
-    def refusal(self, words):
-        code = read_number(words[0], 1)
-        need(len(words) > 1 and code <= len(REFUSALS) and words[1] == REFUSALS[code - 1])
-        return code
-
-    def refused(self, words):
-        need(len(words) > 3 and words[2] in ("write", "read", "check", "watch"))
-        return getattr(self, words[2])(words[3:]), self.refusal(words[:2]), None, None
-
-    def restarted(self, words):
-        need(len(words) in (1, 3))
-        return Restart(self.reader.node(words[0])), self.refusal(words[1:]) if words[1:] else None, None, None
-
-    def failing(self, words):
-        need(len(words) == 1)
-        return Fail(self.reader.node(words[0])), None, None, None
+    def told(self, words):
+        """What was asked, the number of its refusal, the place that was told, and what was found."""
+        match words:
+            case ["wrote", place, *parts]:
+                return self.asked(["write", *parts]), None, read_number(place, 1), None
+            case ["rows", place, fresh, text, ":", *rows]:
+                return self.asked(["read", fresh, text]), None, read_number(place), tuple(map(tuple_of, rows))
+            case ["yes" | "no" as word, place, fresh, text]:
+                return self.asked(["check", fresh, text]), None, read_number(place), word == "yes"
+            case ["events", start, limit, place, *rest] if ":" in rest:
+                cut = rest.index(":")
+                return self.asked(["watch", start, limit, *rest[:cut]]), None, read_number(place), tuple(map(read_event, rest[cut + 1 :]))
+            case ["refused", code, name, *asked]:
+                return self.asked(asked), read_refusal(code, name), None, None
+            case ["restarted", node, *refused] if len(refused) in (0, 2):
+                return Restart(self.reader.node(node)), read_refusal(*refused) if refused else None, None, None
+            case ["failing", node]:
+                return Fail(self.reader.node(node)), None, None, None
+        raise Refused(1)
 
 
 def read_call(reader, line):
     words = line.split(" ")
     need(len(words) > 2)
-    call = reader.call(read_number(words[0]), read_number(words[1]), words[2:])
+    call = Call(read_number(words[0]), read_number(words[1]), *reader.told(words[2:]))
     need(call_text(call) == line)
     return call
 

@@ -1,44 +1,31 @@
 """Reads, checks and watches that are answered otherwise, each by rows or events that are wrong, or by right ones at a place that is wrong."""
 from stressing.calls import Check, Read, Watch
 from stressing.ground import fitted, other_call
-from verdicts import Nothing
+from verdicts import Nothing, double, less, turned
 
 
-def other_found(kind, change, is_so):
+def anywhere(change, last=0):
+    """Changes some things at a place, which is none of so many last ones."""
+    return lambda ground, found: change(found, ground.random.randrange(len(found) - last))
+
+
+def other_found(kind, change, is_so=lambda call: True):
     """The answer with something changed of what was found."""
     return other_call(kind, lambda ground, call: call._replace(found=change(ground, call.found)), lambda _, call: is_so(call))
 
 
-def has(count):
-    return lambda call: len(call.found) >= count
+def other_one(kind, change, least=1):
+    """Of what was found one is changed, where there are so many."""
+    return other_found(kind, anywhere(change, least - 1), lambda call: len(call.found) >= least)
 
 
-def less(ground, found):
-    at = ground.random.randrange(len(found))
-    return found[:at] + found[at + 1 :]
+def put(change):
+    """In the place of one another one."""
+    return lambda found, at: (*found[:at], change(found[at]), *found[at + 1 :])
 
 
-def double(ground, found):
-    at = ground.random.randrange(len(found))
-    return found[: at + 1] + found[at:]
-
-
-def turned(ground, found):
-    at = ground.random.randrange(len(found) - 1)
-    return (*found[:at], found[at + 1], found[at], *found[at + 2 :])
-
-
-def other_user(ground, found):
-    at = ground.random.randrange(len(found))
-    return (*found[:at], found[at]._replace(user=(0, "stranger")), *found[at + 1 :])
-
-
-def other_event(change):
-    def spoiled(ground, found):
-        at = ground.random.randrange(len(found))
-        return (*found[:at], change(*found[at]), *found[at + 1 :])
-
-    return spoiled
+def flipped(change):
+    return change._replace(is_touch=not change.is_touch)
 
 
 def at_other_place(kind, place_of, is_so=lambda call: True):
@@ -110,7 +97,7 @@ def over_limit(ground, call):
 
 def of_other_namespace(ground):
     """A namespace is shown of which nobody has asked."""
-    where, call = ground.told(Watch, has(1))
+    where, call = ground.told(Watch, lambda call: call.found)
     namespaces = {change.tuple.namespace for _, change in call.found}
     left = tuple(name for name in call.asked.namespaces if name != ground.choose(sorted(namespaces))) or ("stranger",)
     if set(left) >= namespaces:
@@ -131,18 +118,18 @@ def kinds_of(kind, name):
 
 
 KINDS = {
-    "a row is missing": other_found(Read, less, has(1)),
-    "a row twice": other_found(Read, double, has(1)),
-    "rows in another order": other_found(Read, turned, has(2)),
-    "a row of another user": other_found(Read, other_user, has(1)),
+    "a row is missing": other_one(Read, less),
+    "a row twice": other_one(Read, double),
+    "rows in another order": other_one(Read, turned, 2),
+    "a row of another user": other_one(Read, put(lambda row: row._replace(user=(0, "stranger")))),
     **kinds_of(Read, "a read"),
-    "the other membership": other_found(Check, lambda ground, found: not found, lambda call: True),
+    "the other membership": other_found(Check, lambda _, found: not found),
     **kinds_of(Check, "a check"),
-    "an event is missing": other_found(Watch, less, has(1)),
-    "an event twice": other_found(Watch, double, has(1)),
-    "events in another order": other_found(Watch, turned, has(2)),
-    "an event of the other kind": other_found(Watch, other_event(lambda at, change: (at, change._replace(is_touch=not change.is_touch))), has(1)),
-    "an event at another place": other_found(Watch, other_event(lambda at, change: (at + 1, change)), has(1)),
+    "an event is missing": other_one(Watch, less),
+    "an event twice": other_one(Watch, double),
+    "events in another order": other_one(Watch, turned, 2),
+    "an event of the other kind": other_one(Watch, put(lambda event: (event[0], flipped(event[1])))),
+    "an event at another place": other_one(Watch, put(lambda event: (event[0] + 1, event[1]))),
     "an event of another namespace": of_other_namespace,
     "a watch ends before what was told": at_other_place(Watch, too_early),
     "a watch shows a write that had not begun": at_other_place(Watch, coming_of_watch),

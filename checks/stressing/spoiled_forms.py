@@ -1,8 +1,9 @@
 """Lines that are none of a run, ticks that no counter gives, and a last part that is not whole. A spoiled form is a run, its lines, or its bytes."""
-from judge.definitions import Change
+import re
+
 from stressing.calls import Check, Fail, Read, Restart, Watch, Write, lines_of
 from stressing.ground import Ground, fitted, other_call
-from stressing.spoiled_lists import STRANGER
+from stressing.spoiled_lists import NEW
 
 
 def other_line(change):
@@ -20,17 +21,6 @@ def replaced(old, new):
     return other_line(lambda line: [line.replace(old, new, 1)])
 
 
-def without_last_word(line):
-    """Of a call that has to have as many words as it has."""
-    may_have_less = any(word in line for word in (" : ", " if ", " write ", " wrote ", " watch "))
-    return [line if may_have_less else line.rpartition(" ")[0]]
-
-
-def without_user(line):
-    """Not of a read: an object is a tupleset too."""
-    return [line if " read " in line or " rows " in line else line.replace("@u", "", 1)]
-
-
 def with_calls(kind, change):
     return other_call(kind, change, pick=Ground.where)
 
@@ -43,9 +33,8 @@ def tick_of_other(ground, call):
 
 def swapped_calls(ground):
     at, index = ground.choose((at, index) for at, index in ground.wheres if index)
-    calls = ground.run.callers[at].calls
-    run = ground.with_calls((at, index), calls[index - 1])
-    return ground.with_calls((at, index - 1), calls[index], run=run)
+    first, second = ground.run.callers[at].calls[index - 1 : index + 1]
+    return ground.with_calls((at, index - 1), second, run=ground.with_calls((at, index), first))
 
 
 def with_caller(change):
@@ -65,36 +54,24 @@ def with_end(change):
     return spoil
 
 
-def first_in(calls, kind):
-    return next(at for at, call in enumerate(calls) if isinstance(call.asked, kind))
+def other_first(kind, *change):
+    """In the last part stands another one in the place of the first of such calls, or none."""
 
+    def spoil(ground, calls):
+        at = next(at for at, call in enumerate(calls) if isinstance(call.asked, kind))
+        return [*calls[:at], *(one(ground, calls[at]) for one in change), *calls[at + 1 :]]
 
-def without_first(kind):
-    def spoil(_, calls):
-        at = first_in(calls, kind)
-        return calls[:at] + calls[at + 1 :]
-
-    return spoil
+    return with_end(spoil)
 
 
 def without(kind):
-    return lambda _, calls: [call for call in calls if not isinstance(call.asked, kind)]
-
-
-def refused_read(_, calls):
-    at = first_in(calls, Read)
-    return [*calls[:at], calls[at]._replace(code=13, place=None, found=None), *calls[at + 1 :]]
+    return with_end(lambda _, calls: [call for call in calls if not isinstance(call.asked, kind)])
 
 
 def written(ground, calls):
     last = calls[-1]
-    write = last._replace(begin=last.end + 1, end=last.end + 2, asked=Write((Change(True, STRANGER),), ()), place=len(ground.log) + 1, found=None)
-    return [*calls, write]
-
-
-def older(ground, calls):
-    at = next(at for at, call in enumerate(calls) if isinstance(call.asked, (Read, Check)) and call.asked.fresh[0] == "latest")
-    return [*calls[:at], fitted(calls[at], ground.history, calls[at].place - 1), *calls[at + 1 :]]
+    write = Write((NEW,), ())
+    return [*calls, last._replace(begin=last.end + 1, end=last.end + 2, asked=write, place=len(ground.log) + 1, found=None)]
 
 
 def too_soon(ground, calls):
@@ -129,12 +106,14 @@ KINDS = {
     "two spaces": replaced(" ", "  "),
     "a space at the end": other_line(lambda line: [line + " "]),
     "a leading zero": other_line(lambda line: ["0" + line]),
-    "a line without its last word": other_line(without_last_word),
+    # Of a call that has to have as many words as it has.
+    "a line without its last word": other_line(lambda line: [line if re.search(" (:|if|write|wrote|watch) ", line) else line.rpartition(" ")[0]]),
     "a line without its ticks": other_line(lambda line: [line.split(" ", 2)[2]]),
     "a refusal by another name": replaced(" Down", " Dowm"),
     "a refusal by another number": replaced(" 13 Down", " 12 Down"),
     "a change without its sign": replaced(" +", " "),
-    "a tuple without its user": other_line(without_user),
+    # Not of a read: an object is a tupleset too.
+    "a tuple without its user": other_line(lambda line: [line if re.search(" (read|rows) ", line) else line.replace("@u", "", 1)]),
     "a node that is not there": with_calls((Restart, Fail), lambda ground, call: call._replace(asked=call.asked._replace(node=ground.run.shards))),
     "a call that ends before it begins": with_calls(object, lambda _, call: call._replace(begin=call.end, end=call.begin)),
     "a call that ends as it begins": with_calls(object, lambda _, call: call._replace(end=call.begin)),
@@ -153,11 +132,12 @@ KINDS = {
     "a byte that is none of a line": as_bytes(lambda text: text.replace(b"doc", b"d\xc3\xb6c", 1)),
     "the last part comes first": lambda ground: ground.run._replace(callers=[ground.run.callers[-1], *ground.run.callers[:-1]]),
     "the last part begins too soon": with_end(too_soon),
-    "the list does not begin": with_end(without_first(Watch)),
-    "no list": with_end(without(Watch)),
+    "the list does not begin": other_first(Watch),
+    "no list": without(Watch),
     "a place of the list is empty": with_end(with_hole),
-    "no reads behind the list": with_end(without((Read, Check))),
-    "a refusal in the last part": with_end(refused_read),
+    "no reads behind the list": without((Read, Check)),
+    "a refusal in the last part": other_first(Read, lambda _, call: call._replace(code=13, place=None, found=None)),
     "a write in the last part": with_end(written),
-    "a read of the last part is older": with_end(older),
+    # The first one is of the latest place.
+    "a read of the last part is older": other_first(Read, lambda ground, call: fitted(call, ground.history, call.place - 1)),
 }

@@ -4,9 +4,11 @@ from judge.lines import read_tuple
 from stressing.calls import Write
 from stressing.ground import Ground, other_call
 from stressing.listing import MAY_STAND
-from stressing.spoiled_answers import less
+from stressing.spoiled_answers import anywhere, flipped
+from verdicts import less, turned
 
 STRANGER = read_tuple("doc:stranger#owner@u0")
+NEW = Change(True, STRANGER)
 
 
 def changed(ground, place, *changes):
@@ -16,13 +18,13 @@ def changed(ground, place, *changes):
     return ground.refitted(run, log) if changes else run
 
 
-def last_lost(ground):
-    last = max(place for place, call in ground.listed.calls.items() if not call.code)
-    return ground.with_log(ground.log[: last - 1])
+def other_list(log_of):
+    return lambda ground: ground.with_log(log_of(ground, ground.log))
 
 
-def long_place(ground):
-    return ground.choose(place for place, changes in enumerate(ground.log, 1) if len(changes) > 1)
+def stands_last(is_so):
+    """So does a write that was not told, of which this is so."""
+    return other_list(lambda ground, log: [*log, ground.unplaced(Write, lambda call: is_so(ground, call))[1].asked.changes])
 
 
 def other_at(place_of, change):
@@ -35,36 +37,17 @@ def other_at(place_of, change):
     return spoil
 
 
-def other_kind(_, changes):
-    return (changes[0]._replace(is_touch=not changes[0].is_touch), *changes[1:])
+def long_place(ground):
+    return ground.choose(place for place, changes in enumerate(ground.log, 1) if len(changes) > 1)
 
 
 def pair(ground):
-    return ground.told_place(lambda place: place < len(ground.log))
+    """Where in the list a write is that was told, with another one behind it."""
+    return ground.told_place(lambda place: place < len(ground.log)) - 1
 
 
-def swapped_log(ground, place):
-    log = list(ground.log)
-    log[place - 1], log[place] = log[place], log[place - 1]
-    return log
-
-
-def joined(ground):
-    place = pair(ground)
-    log = ground.log
-    return ground.with_log([*log[: place - 1], log[place - 1] + log[place], *log[place + 1 :]])
-
-
-def refused_stands(ground):
-    _, call = ground.unplaced(Write, lambda call: call.code not in MAY_STAND)
-    return ground.with_log([*ground.log, call.asked.changes])
-
-
-def unsure_stands_late(ground):
-    """Above a write that began when it had ended."""
-    last = max(call.begin for call in ground.listed.calls.values())
-    _, call = ground.unplaced(Write, lambda call: call.code in MAY_STAND and call.end < last)
-    return ground.with_log([*ground.log, call.asked.changes])
+def joined(log, at):
+    return [*log[:at], log[at] + log[at + 1], *log[at + 2 :]]
 
 
 def against_time(ground):
@@ -77,11 +60,12 @@ def against_time(ground):
         call = ground.call(where)
         if isinstance(call.asked, Write) and call.place in (place, place + 1):
             run = ground.with_calls(where, call._replace(place=2 * place + 1 - call.place), run=run)
-    return ground.refitted(run, swapped_log(ground, place))
+    return ground.refitted(run, turned(ground.log, place - 1))
 
 
-def other_place(by):
-    return other_call(Write, lambda _, call: call._replace(place=call.place + by), lambda _, call: 1 <= call.place + by)
+def told_at(place_of):
+    """A write is told another place."""
+    return other_call(Write, lambda ground, call: call._replace(place=place_of(ground, call)), lambda ground, call: place_of(ground, call) >= 1)
 
 
 def told_twice(ground):
@@ -92,49 +76,43 @@ def told_twice(ground):
     return ground.with_calls(where, before, call._replace(begin=before.end + 1, end=before.end + 2))
 
 
-def other_changes(_, call):
-    return call._replace(asked=call.asked._replace(changes=(Change(True, STRANGER), *call.asked.changes[1:])))
+def asking(**parts):
+    """A write asks for other parts, each of them told by a call, and all else is as it was."""
+    other = lambda ground, call: call.asked._replace(**{name: part(ground, call) for name, part in parts.items()})
+    return other_call(Write, lambda ground, call: call._replace(asked=other(ground, call)), lambda _, call: call.place > 1)
 
 
-def unmet(condition_at):
-    """A write stands although a condition of it is not met."""
-    unmet_of = lambda ground, call: call._replace(asked=call.asked._replace(conditions=(condition_at(ground, call.place - 1),)))
-    return other_call(Write, unmet_of, lambda _, call: call.place > 1)
+def unmet(want, is_so):
+    """A write stands although a condition of it is not met: that of a tuple of which this is so before its place."""
 
+    def conditions(ground, call):
+        history, place = ground.history, call.place - 1
+        asked = ground.choose(one for one in history.places if is_so(history, one, place))
+        return (Condition(asked, want or history.last_change(asked, place) - 1),)
 
-def gone(ground, place):
-    return Condition(ground.choose(one for one in ground.history.places if not ground.history.is_there(one, place)), "exists")
-
-
-def there(ground, place):
-    return Condition(ground.choose(one for one in ground.history.places if ground.history.is_there(one, place)), "absent")
-
-
-def changed_since(ground, place):
-    asked = ground.choose(one for one in ground.history.places if ground.history.last_change(one, place))
-    return Condition(asked, ground.history.last_change(asked, place) - 1)
+    return asking(conditions=conditions)
 
 
 KINDS = {
     "a write that was told is lost": lambda ground: changed(ground, ground.told_place()),
-    "the last write that was told is lost": last_lost,
-    "a write in part": other_at(long_place, less),
+    "the last write that was told is lost": other_list(lambda ground, log: log[: max(ground.told_places()) - 1]),
+    "a write in part": other_at(long_place, anywhere(less)),
     "the changes of a write in another order": other_at(long_place, lambda _, changes: changes[::-1]),
-    "a change of the other kind": other_at(Ground.told_place, other_kind),
-    "two writes changed places": lambda ground: ground.with_log(swapped_log(ground, pair(ground))),
-    "two writes at one place": joined,
-    "a write stands twice": lambda ground: ground.with_log([*ground.log, ground.choose(ground.log)]),
-    "a write that nobody asked for": lambda ground: ground.with_log([*ground.log, (Change(True, STRANGER),)]),
-    "a write that was refused stands": refused_stands,
-    "an unsure write stands above one that began later": unsure_stands_late,
+    "a change of the other kind": other_at(Ground.told_place, lambda _, changes: (flipped(changes[0]), *changes[1:])),
+    "two writes changed places": other_list(lambda ground, log: turned(log, pair(ground))),
+    "two writes at one place": other_list(lambda ground, log: joined(log, pair(ground))),
+    "a write stands twice": other_list(lambda ground, log: [*log, ground.choose(log)]),
+    "a write that nobody asked for": other_list(lambda _, log: [*log, (NEW,)]),
+    "a write that was refused stands": stands_last(lambda _, call: call.code not in MAY_STAND),
+    "an unsure write stands above one that began later": stands_last(lambda ground, call: call.code in MAY_STAND and call.end < ground.last_begun),
     "a write stands below one that had ended before": against_time,
-    "the next place is told": other_place(1),
-    "the place before is told": other_place(-1),
-    "a place above the list is told": other_call(Write, lambda ground, call: call._replace(place=len(ground.log) + 1)),
+    "the next place is told": told_at(lambda _, call: call.place + 1),
+    "the place before is told": told_at(lambda _, call: call.place - 1),
+    "a place above the list is told": told_at(lambda ground, _: len(ground.log) + 1),
     "nobody is told of a write that stands": lambda ground: ground.with_calls(ground.told(Write)[0]),
     "a write is told to two callers": told_twice,
-    "other changes are told than those that stand": other_call(Write, other_changes),
-    "a write stands although a tuple is not there": unmet(gone),
-    "a write stands although a tuple is there": unmet(there),
-    "a write stands although a tuple was changed": unmet(changed_since),
+    "other changes are told than those that stand": asking(changes=lambda _, call: (NEW, *call.asked.changes[1:])),
+    "a write stands although a tuple is not there": unmet("exists", lambda history, one, place: not history.is_there(one, place)),
+    "a write stands although a tuple is there": unmet("absent", lambda history, one, place: history.is_there(one, place)),
+    "a write stands although a tuple was changed": unmet(None, lambda history, one, place: history.last_change(one, place)),
 }

@@ -3,10 +3,10 @@ from judge.definitions import Condition
 from stressing.calls import Check, Fail, Read, Restart, Watch, Write, calls_of
 from stressing.ground import Ground, other_call
 from stressing.answering import OF_ANSWERS, OF_WRITES, asked_places
-from stressing.spoiled_lists import STRANGER
+from stressing.spoiled_lists import NEW, STRANGER
 from verdicts import Nothing
 
-ANSWERS = (Read, Check, Watch)
+ANSWERS = {"read": Read, "check": Check, "watch": Watch}
 ALL = set(range(1, 17))
 
 
@@ -43,20 +43,8 @@ def never(ground):
     return refused_otherwise(ground.choose(sorted(ALL - OF_WRITES)))(ground)
 
 
-def alone(write):
-    return Write((write.changes[0]._replace(tuple=STRANGER),), ())
-
-
 def without_conditions(write):
     return write._replace(conditions=())
-
-
-def states(log, asked):
-    """Whether the tuple is there, at each place from 0 on."""
-    found = [False]
-    for changes in log:
-        found.append(next((change.is_touch for change in changes if change.tuple == asked), found[-1]))
-    return found
 
 
 def met_meanwhile(ground):
@@ -64,7 +52,7 @@ def met_meanwhile(ground):
     where, call = ground.unplaced(Write)
     least, most = ground.moments.told_before(call.begin), ground.moments.most_at(call.end)
     for asked in ground.random.sample(sorted(ground.history.places), min(40, len(ground.history.places))):
-        every = states(ground.log, asked)
+        every = [ground.history.is_there(asked, place) for place in range(len(ground.log) + 1)]
         if len({*every}) == 2 and len({*every[least : most + 1]}) == 1:
             condition = Condition(asked, "exists" if every[least] else "absent")
             return ground.with_calls(where, refused(call._replace(asked=call.asked._replace(conditions=(condition,))), 9))
@@ -75,11 +63,9 @@ def before_trouble(code):
     """A call is refused although no node was in trouble before."""
 
     def spoil(ground):
-        where, call = ground.where((Write, *ANSWERS), lambda call: call.code == code)
-        callers = []
-        for caller in ground.run.callers:
-            later = [it for it in caller.calls if not isinstance(it.asked, (Restart, Fail)) or it.begin > call.end]
-            callers.append(caller._replace(calls=later))
+        where, call = ground.where((Write, *ANSWERS.values()), lambda call: call.code == code)
+        stays = lambda it: not isinstance(it.asked, (Restart, Fail)) or it.begin > call.end
+        callers = [caller._replace(calls=[*filter(stays, caller.calls)]) for caller in ground.run.callers]
         if not all(caller.calls for caller in callers):
             raise Nothing
         return ground.run._replace(callers=callers)
@@ -96,27 +82,19 @@ def with_condition(want):
 
 
 KINDS = {
-    "a write that stands is not met": told_is_refused(Write, {9}),
-    "a write that stands is busy": told_is_refused(Write, {10}),
-    "a write that stands is aborted": told_is_refused(Write, {11}),
-    "a write that stands is down": told_is_refused(Write, {13}),
+    **{f"a write that stands is {what}": told_is_refused(Write, {code}) for what, code in (("not met", 9), ("busy", 10), ("aborted", 11), ("down", 13))},
     "a write that stands is refused as none is": told_is_refused(Write, ALL - OF_WRITES),
-    "a read of the latest place is in the future": told_is_refused(Read, {7}, is_latest),
-    "a check of the latest place is in the future": told_is_refused(Check, {7}, is_latest),
-    "a read of a place that was told is in the future": told_is_refused(Read, {7}, names_what_was_told),
-    "a check of a place that was told is in the future": told_is_refused(Check, {7}, names_what_was_told),
-    "a watch from a place that was told is in the future": told_is_refused(Watch, {7}, names_what_was_told),
-    "a read is refused as none is": told_is_refused(Read, ALL - OF_ANSWERS),
-    "a check is refused as none is": told_is_refused(Check, ALL - OF_ANSWERS),
-    "a watch is refused as none is": told_is_refused(Watch, ALL - OF_ANSWERS),
-    "a place is collected": told_is_refused(ANSWERS, {8}),
+    **{f"a {name} of the latest place is in the future": told_is_refused(ANSWERS[name], {7}, is_latest) for name in ("read", "check")},
+    **{f"a {name} of a place that was told is in the future": told_is_refused(kind, {7}, names_what_was_told) for name, kind in ANSWERS.items()},
+    **{f"a {name} is refused as none is": told_is_refused(kind, ALL - OF_ANSWERS) for name, kind in ANSWERS.items()},
+    "a place is collected": told_is_refused((*ANSWERS.values(),), {8}),
     "a write is refused as none is": never,
     "a write without conditions is not met": refused_otherwise(9, without_conditions),
     "a write whose condition is met is not met": refused_otherwise(9, with_condition("absent")),
     "a write is not met whose condition was not met before or behind it": met_meanwhile,
     "a write of a place that was told is in the future": refused_otherwise(7, with_condition(0)),
     "a write without conditions is in the future": refused_otherwise(7, without_conditions),
-    "a write that shares no tuple is busy": refused_otherwise(10, alone),
+    "a write that shares no tuple is busy": refused_otherwise(10, lambda write: Write((NEW,), ())),
     "a write is aborted and no node was opened": refused_otherwise(11, is_so=is_quiet),
     "a call is down before any trouble": before_trouble(13),
     "a write is unsure before any trouble": before_trouble(12),

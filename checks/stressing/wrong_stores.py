@@ -1,5 +1,5 @@
 """Plain stores with a mistake each, which the judge has to find in what their callers were told."""
-from judge import definitions
+from judge.definitions import events, home, snapshot
 from stressing.calls import lines_of
 from stressing.judging import judged
 from stressing.plain_store import SHARDS, Refused, Store
@@ -9,32 +9,54 @@ from stressing.sample import sample
 RUNS = 8
 
 
-class ReadsBehind(Store):
-    """A latest answer is of a place that was the latest before."""
+def store_with(**methods):
+    """A store whose methods give what these make of the store, of what the method was given, and of what it gave."""
 
-    def place(self, fresh):
-        return max(super().place(fresh) - (fresh[0] != "exact"), 0)
+    def other(name, change):
+        return lambda self, *given: change(self, *given, getattr(Store, name)(self, *given))
 
-
-class ShowsWhatIsNotKept(Store):
-    """Answers show a decision that a restart may find to be gone."""
-
-    def place(self, fresh):
-        place = super().place(fresh)
-        return place if fresh[0] == "exact" else len(self.log)
+    return type("Wrong", (Store,), {name: other(name, change) for name, change in methods.items()})
 
 
-class ForgetsTheLast(Store):
-    """A restart of the coordinator loses a write that was told."""
+def refuse(code):
+    raise Refused(code)
 
-    def recover(self):
-        self.shown = max(self.shown - 1, 0)
-        self.log = self.log[: self.shown]
+
+def loses_the_last(store, _):
+    store.shown = max(store.shown - 1, 0)
+    store.log = store.log[: store.shown]
+
+
+def torn(store, asked, told):
+    here, before = (snapshot(store.log, place) for place in (told[0], max(told[0] - 1, 0)))
+    return told[0], store.rows(asked, {one for one in here if home(one, SHARDS)} | {one for one in before if not home(one, SHARDS)})
+
+
+def lags_from_now(store, node, _):
+    store.lags = {**getattr(store, "lags", {}), node: store.random.choice((0, len(store.log)))}
+
+
+def lagging(store, asked, told):
+    place, lags = told[0], getattr(store, "lags", {})
+    old = {shard: snapshot(store.log, min(place, lags.get(shard) or place)) for shard in range(SHARDS)}
+    return place, store.rows(asked, {one for one in snapshot(store.log, place) if one in old[home(one, SHARDS)]})
+
+
+def without_first(store, asked, told):
+    end, found = told
+    return end, tuple(event for event in found if event[0] != asked.start + 1 or end == asked.start + 1)
+
+
+def ending_before(store, asked, told):
+    end = max(told[0] - 1, asked.start)
+    return end, tuple(events(store.log, asked.start, end, asked.namespaces))
+
+
+def at_times_aborted(store, _, write, are_met):
+    return refuse(11) if store.random.random() < 0.05 else are_met
 
 
 class TestsTooSoon(Store):
-    """Conditions are tested where the write begins, and not again where it is decided."""
-
     def begin(self, number, write):
         super().begin(number, write)
         self.met = {**getattr(self, "met", {}), number: super().are_met(number, write)}
@@ -44,42 +66,28 @@ class TestsTooSoon(Store):
 
 
 class MakesWhatItRefuses(Store):
-    """A write that is refused for a while is made nonetheless."""
-
-    codes = (10, 11)
+    codes, first = (10, 11), 0
 
     def write(self, number, write):
         try:
             return super().write(number, write)
         except Refused as refused:
-            if refused.code in self.codes and self.shown == len(self.log):
-                self.log.append(write)
+            changes = write.changes[self.first :]
+            if refused.code in self.codes and changes and self.shown == len(self.log):
+                self.log.append(write._replace(changes=changes))
                 self.shown += 1
             raise
 
 
 class MakesWhatIsNotMet(MakesWhatItRefuses):
-    """A write whose conditions are not met is made nonetheless."""
-
     codes = (9,)
 
 
-class MakesHalf(Store):
-    """A shard that fails keeps the other shards' part of a write."""
-
-    def write(self, number, write):
-        try:
-            return super().write(number, write)
-        except Refused as refused:
-            if refused.code == 13 and len(write.changes) > 1 and self.shown == len(self.log):
-                self.log.append(write._replace(changes=write.changes[1:]))
-                self.shown += 1
-            raise
+class MakesHalf(MakesWhatItRefuses):
+    codes, first = (13,), 1
 
 
 class MakesTwice(Store):
-    """A write that was unsure and stands is made again by a restart."""
-
     def recover(self):
         unsure = self.log[self.shown :]
         super().recover()
@@ -89,91 +97,32 @@ class MakesTwice(Store):
 
 
 class TellsBeforeItIsKept(Store):
-    """A place is told, and the failing device has not kept the decision."""
-
     def decide(self, write):
-        if "c" in self.failing:
-            self.fails_quietly()
-            return len(self.log) + 1
-        return super().decide(write)
-
-    def fails_quietly(self):
+        if "c" not in self.failing:
+            return super().decide(write)
         self.failing.discard("c")
         self.down.add("c")
+        return len(self.log) + 1
 
 
-class TearsReads(Store):
-    """A read takes the tuples of one shard from the place before."""
-
-    def read(self, asked):
-        place, _ = super().read(asked)
-        here, before = definitions.snapshot(self.log, place), definitions.snapshot(self.log, max(place - 1, 0))
-        mixed = {one for one in here if definitions.home(one, SHARDS)} | {one for one in before if not definitions.home(one, SHARDS)}
-        return place, self.rows(asked, mixed)
-
-
-class ShardForgets(Store):
-    """A shard that was opened again has not learned the last writes."""
-
-    def restart(self, node):
-        super().restart(node)
-        self.lags = {**getattr(self, "lags", {}), node: self.random.choice((0, len(self.log)))}
-
-    def read(self, asked):
-        place, _ = super().read(asked)
-        there = definitions.snapshot(self.log, place)
-        lags = getattr(self, "lags", {})
-        old = {shard: definitions.snapshot(self.log, min(place, lags.get(shard) or place)) for shard in range(SHARDS)}
-        mixed = {one for one in there if one in old[definitions.home(one, SHARDS)]}
-        return place, self.rows(asked, mixed)
-
-
-class WalksOneStep(Store):
-    """A check looks at the tuples of the object alone."""
-
-    def check(self, asked):
-        place, _ = super().check(asked)
-        return place, asked.tuple in definitions.snapshot(self.log, place)
-
-
-class SkipsAPlace(Store):
-    """A watch leaves out the first place where it lists several."""
-
-    def watch(self, asked):
-        end, events = super().watch(asked)
-        return end, tuple(event for event in events if event[0] != asked.start + 1 or end == asked.start + 1)
-
-
-class WatchesBehind(Store):
-    """A watch ends before what it could list."""
-
-    def watch(self, asked):
-        end = max(super().watch(asked)[0] - 1, asked.start)
-        return end, tuple(definitions.events(self.log, asked.start, end, asked.namespaces))
-
-
-class RefusesThePresent(Store):
-    """The latest place that was told is refused as one of the future."""
-
-    def place(self, fresh):
-        if fresh[1] == self.shown and fresh[1] > 0:
-            raise Refused(7)
-        return super().place(fresh)
-
-
-class AbortsForNothing(Store):
-    """Writes are refused as if a node had been opened again."""
-
-    def write(self, number, write):
-        if self.random.random() < 0.05:
-            raise Refused(11)
-        return super().write(number, write)
-
-
-WRONG = (
-    (ReadsBehind, ShowsWhatIsNotKept, ForgetsTheLast, TestsTooSoon, MakesWhatItRefuses, MakesWhatIsNotMet, MakesHalf, MakesTwice)
-    + (TellsBeforeItIsKept, TearsReads, ShardForgets, WalksOneStep, SkipsAPlace, WatchesBehind, RefusesThePresent, AbortsForNothing)
-)
+WRONG = {
+    "a latest answer is of the place before": store_with(place=lambda store, fresh, place: max(place - (fresh[0] != "exact"), 0)),
+    "answers show what a restart may find to be gone": store_with(place=lambda store, fresh, at: at if fresh[0] == "exact" else len(store.log)),
+    "the latest place is refused as one of the future": store_with(place=lambda store, fresh, at: refuse(7) if fresh[1] == store.shown > 0 else at),
+    "a restart of the coordinator loses a write that was told": store_with(recover=loses_the_last),
+    "conditions are tested where the write begins, and not again where it is decided": TestsTooSoon,
+    "a write that is refused for a while is made nonetheless": MakesWhatItRefuses,
+    "a write whose conditions are not met is made nonetheless": MakesWhatIsNotMet,
+    "a shard that fails keeps the other shards' part of a write": MakesHalf,
+    "a write that was unsure and stands is made again by a restart": MakesTwice,
+    "a place is told, and the failing device has not kept the decision": TellsBeforeItIsKept,
+    "a read takes the tuples of one shard from the place before": store_with(read=torn),
+    "a shard that was opened again has not learned the last writes": store_with(restart=lags_from_now, read=lagging),
+    "a check looks at the tuples of the object alone": store_with(check=lambda store, asked, it: (it[0], asked.tuple in snapshot(store.log, it[0]))),
+    "a watch leaves out the first place where it lists several": store_with(watch=without_first),
+    "a watch ends before what it could list": store_with(watch=ending_before),
+    "writes are refused as if a node had been opened again": store_with(are_met=at_times_aborted),
+}
 
 
 def found(wrong, seed):

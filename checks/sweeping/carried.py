@@ -7,6 +7,7 @@ from programs import harness, lines_of
 from programs import run as given
 from sweeping.asking import LIMIT
 from sweeping.scripts import STORE
+from verdicts import double, less
 
 A, B, C, D = (f"doc:{id}#viewer@u1" for id in "abcd")
 E = "doc:a#viewer@u2"
@@ -139,8 +140,8 @@ def carried(pool):
 def spoilings(printed):
     """The lines of a wrong program: each line is missing, stands twice, is refused or is another one."""
     for at, line in enumerate(printed):
-        yield f"line {at} is missing", printed[:at] + printed[at + 1 :]
-        yield f"line {at} is there twice", printed[: at + 1] + printed[at:]
+        yield f"line {at} is missing", less(printed, at)
+        yield f"line {at} is there twice", double(printed, at)
         for other in (DOWN, "refused 16 Damaged", f"ok {Z[3]}", f"at {Z[0]}", f"4 +{D}", "done", "up"):
             if other != line:
                 yield f"line {at} is {other}", [*printed[:at], other, *printed[at + 1 :]]

@@ -16,12 +16,8 @@ class Look:
     """What was asked and told, by parts: `script`, `restarts`, `again`, `resolved`, `latest`, `snapshot` and `watches`."""
 
     def __init__(self, name, fails):
-        self.name = name
-        self.fails = fails
-        self.given = []
-        self.told = []
-        self.parts = {}
-        self.horizon = 0
+        self.name, self.fails, self.horizon = name, fails, 0
+        self.given, self.told, self.parts = [], [], {}
 
     def note(self, part, told):
         self.parts.setdefault(part, []).append(len(self.told))

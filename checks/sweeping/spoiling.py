@@ -1,7 +1,10 @@
 """Tests the sweep: spoils what the program printed as a wrong store would print it, and asks that it is noticed."""
 from judge.lines import token
+from judge.told import place_of
+from programs import lines_of
 from sweeping.looking import OWN, acknowledged, events, faults, gather, rows
 from sweeping.scripts import STORE
+from verdicts import EVENT, OTHER_KIND, ROW, less_or_more, spoiled_texts
 
 # Runs whose answers are spoiled: a script, and its failing calls.
 RUNS = [
@@ -15,6 +18,10 @@ RUNS = [
     ("two-checkpoints", [("cb", 3, "a5")]),
     ("stopped-checkpoint", []),
 ]
+
+
+# What may not come in the place of an opening.
+OPENINGS = [("what a stop left is damaged", "^up$", "refused 16 Damaged"), ("an opening without memory", "^up$", "refused 14 NoMemory")]
 
 
 def ok(place):
@@ -42,16 +49,14 @@ def latest(look, place, there):
     return [f"at {token(STORE, place)}", *listed]
 
 
-def spoiled_events(look):
-    """Events that no list of whole writes has, and those of other lists than the one that was told."""
-    index, log = look.parts["watches"][0], events(look)
-    printed = look.told[index].printed
-    for at, event in enumerate(printed[:-1]):
-        place, change = event.split(" ")
-        yield "an event is missing", look.with_other(index, printed[:at] + printed[at + 1 :])
-        yield "an event is twice", look.with_other(index, printed[: at + 1] + printed[at:])
-        other = f"{place} {'-' if change[0] == '+' else '+'}{change[1:]}"
-        yield "an event of the other kind", look.with_other(index, [*printed[:at], other, *printed[at + 1 :]])
+def other_lines(look, index, kinds):
+    for what, text in spoiled_texts(lines_of(look.told[index].printed), kinds):
+        yield what, look.with_other(index, text.splitlines())
+
+
+def other_logs(look):
+    """Other lists than the one that was told."""
+    log = events(look)
     told = {place for place, _ in acknowledged(look)}
     if told and max(told) > look.horizon:
         yield "the writes from one that was told on are lost", with_log(look, {place: changes for place, changes in log.items() if place < max(told)})
@@ -66,19 +71,23 @@ def spoiled_events(look):
         yield "a write is there too often", with_log(look, {**log, **{last + more: log[last] for more in range(1, 5)}})
 
 
-def spoiled_reads(look):
+def other_answers(look):
+    """Other answers to one line."""
+    yield from other_lines(look, look.parts["watches"][0], less_or_more("an event", EVENT) + OTHER_KIND)
     index = look.parts["latest"][0]
-    printed = look.told[index].printed
     place, there = rows(look.told[index])
     yield "a tuple too many", look.with_other(index, latest(look, place, there | {"doc:a#viewer@u9"}))
     yield "read at another place", look.with_other(index, latest(look, place + 1, there))
-    for at in range(1, len(printed)):
-        yield "a tuple is missing", look.with_other(index, printed[:at] + printed[at + 1 :])
-        yield "a tuple twice", look.with_other(index, printed[: at + 1] + printed[at:])
+    yield from other_lines(look, index, less_or_more("a tuple", ROW))
+    again = look.parts.get("again", [])
+    for index in look.parts["restarts"] + again:
+        yield from other_lines(look, index, OPENINGS)
+    yield from (("a node does not come up", look.with_other(index, ["refused 13 Down"])) for index in again)
 
 
-def spoiled_places(look):
-    told = [(index, place) for index in look.parts["script"] for place in (place_told(look.told[index]),) if place]
+def other_places(look):
+    printed = [(index, look.told[index].printed[0]) for index in look.parts["script"]]
+    told = [(index, place_of(line[3:], STORE)) for index, line in printed if line.startswith("ok ")]
     for (index, _), (_, place) in zip(told[1:], told):
         yield "a place twice", look.with_other(index, ok(place))
     for index, place in told:
@@ -87,21 +96,7 @@ def spoiled_places(look):
             yield "an earlier place", look.with_other(index, ok(place - 1))
 
 
-def place_told(told):
-    found = [place for place in range(1, 10) if told.printed == ok(place)]
-    return found[0] if found else None
-
-
-def spoiled_openings(look):
-    for index in look.parts["restarts"] + look.parts.get("again", []):
-        if look.told[index].printed == ["up"]:
-            yield "what a stop left is damaged", look.with_other(index, ["refused 16 Damaged"])
-            yield "an opening without memory", look.with_other(index, ["refused 14 NoMemory"])
-    for index in look.parts["again"] if look.parts.get("again") else []:
-        yield "a node does not come up", look.with_other(index, ["refused 13 Down"])
-
-
-KINDS = (spoiled_events, spoiled_reads, spoiled_places, spoiled_openings)
+KINDS = (other_logs, other_answers, other_places)
 
 
 def spoiled(run):

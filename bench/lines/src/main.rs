@@ -5,14 +5,13 @@ mod token;
 #[path = "../../texts.rs"]
 mod texts;
 
-use request::{Refusal, Request};
+use request::{Refusal, Request, TOO_LARGE};
 use texts::log::{run, tell};
 use serde::Serialize;
 use std::io::{self, BufRead, BufReader, Write};
 use std::time::Instant;
 
 const MAX_LINE: usize = 262_144;
-
 const PLACE: u64 = 1;
 
 const LINES: [(&str, &str); 4] = [
@@ -20,18 +19,9 @@ const LINES: [(&str, &str); 4] = [
         "lines-write",
         r#"{"op":"write","changes":[{"op":"touch","tuple":"doc:d1#viewer@u1"},{"op":"delete","tuple":"doc:d2#viewer@group:g1#member"}],"conditions":[{"tuple":"doc:d1#lock@lock","since":"AQAAAAAAAAAAAQAAAAAAAAAB"}]}"#,
     ),
-    (
-        "lines-read",
-        r#"{"op":"read","sets":["doc:d1","doc#viewer@u1"],"at_least":"AQAAAAAAAAAAAQAAAAAAAAAB"}"#,
-    ),
-    (
-        "lines-check",
-        r#"{"op":"check","tuple":"doc:d1#viewer@u1","exact":"AQAAAAAAAAAAAQAAAAAAAAAB"}"#,
-    ),
-    (
-        "lines-watch",
-        r#"{"op":"watch","from":"AQAAAAAAAAAAAQAAAAAAAAAB","limit":256,"namespaces":["doc","group"]}"#,
-    ),
+    ("lines-read", r#"{"op":"read","sets":["doc:d1","doc#viewer@u1"],"at_least":"AQAAAAAAAAAAAQAAAAAAAAAB"}"#),
+    ("lines-check", r#"{"op":"check","tuple":"doc:d1#viewer@u1","exact":"AQAAAAAAAAAAAQAAAAAAAAAB"}"#),
+    ("lines-watch", r#"{"op":"watch","from":"AQAAAAAAAAAAAQAAAAAAAAAB","limit":256,"namespaces":["doc","group"]}"#),
 ];
 
 #[derive(Serialize)]
@@ -45,43 +35,36 @@ enum Answer {
 }
 
 // Answers at once, and counts what it was asked.
-struct Idle {
-    asked: u64,
-}
-
-impl Idle {
-    fn answer(&mut self, request: Request) -> Answer {
-        self.asked += 1;
-        let zookie = token::encode(1, PLACE);
-        match request {
-            Request::Write(_) => Answer::Written { zookie },
-            Request::Read(..) => Answer::Rows { sets: Vec::new(), zookie },
-            Request::Check(..) => Answer::Membership { member: true, zookie },
-            Request::Watch(..) => Answer::Events { events: Vec::new(), heartbeat: zookie },
-        }
+fn answer(request: Request, asked: &mut u64) -> Answer {
+    *asked += 1;
+    let zookie = token::encode(1, PLACE);
+    match request {
+        Request::Write(_) => Answer::Written { zookie },
+        Request::Read(..) => Answer::Rows { sets: Vec::new(), zookie },
+        Request::Check(..) => Answer::Membership { member: true, zookie },
+        Request::Watch(..) => Answer::Events { events: Vec::new(), heartbeat: zookie },
     }
 }
 
-fn refusal(refusal: Refusal) -> Answer {
-    let (error, name) = refusal.told();
+fn refusal((error, name): Refusal) -> Answer {
     Answer::Refused { error, name }
 }
 
-fn serve(input: &mut impl BufRead, output: &mut impl Write, idle: &mut Idle) -> io::Result<()> {
+fn serve(input: &mut impl BufRead, output: &mut impl Write, asked: &mut u64) -> io::Result<()> {
     let mut line = Vec::new();
     loop {
         line.clear();
         if input.read_until(b'\n', &mut line)? == 0 {
             return output.flush();
         }
-        let answer = match line.strip_suffix(b"\n") {
+        let told = match line.strip_suffix(b"\n") {
             Some(line) if line.len() <= MAX_LINE => match request::parse(line, 1) {
-                Ok(request) => idle.answer(request),
+                Ok(request) => answer(request, asked),
                 Err(error) => refusal(error),
             },
-            _ => refusal(Refusal::TooLarge),
+            _ => refusal(TOO_LARGE),
         };
-        serde_json::to_writer(&mut *output, &answer)?;
+        serde_json::to_writer(&mut *output, &told)?;
         output.write_all(b"\n")?;
     }
 }
@@ -89,12 +72,11 @@ fn serve(input: &mut impl BufRead, output: &mut impl Write, idle: &mut Idle) -> 
 fn measure(name: &str, count: u64) -> Option<()> {
     let (_, line) = LINES.iter().find(|(each, _)| *each == name)?;
     let input = format!("{line}\n").repeat(count as usize).into_bytes();
-    let mut output = Vec::new();
-    let mut idle = Idle { asked: 0 };
+    let (mut output, mut asked) = (Vec::new(), 0);
     let start = Instant::now();
-    serve(&mut BufReader::new(input.as_slice()), &mut output, &mut idle).ok()?;
+    serve(&mut BufReader::new(input.as_slice()), &mut output, &mut asked).ok()?;
     let took = start.elapsed();
-    tell("lines", count, took, idle.asked + output.len() as u64);
+    tell("lines", count, took, asked + output.len() as u64);
     Some(())
 }
 

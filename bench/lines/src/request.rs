@@ -5,27 +5,12 @@ use crate::token;
 use serde_json::{Map, Value};
 use std::collections::HashSet;
 
-pub enum Refusal {
-    BadRequest,
-    BadTuple,
-    TooLarge,
-    Repeated,
-    BadZookie,
-    WrongStore,
-}
+/// The number and the name of a refusal.
+pub type Refusal = (u8, &'static str);
 
-impl Refusal {
-    pub fn told(&self) -> (u8, &'static str) {
-        match self {
-            Refusal::BadRequest => (1, "BadRequest"),
-            Refusal::BadTuple => (2, "BadTuple"),
-            Refusal::TooLarge => (3, "TooLarge"),
-            Refusal::Repeated => (4, "Repeated"),
-            Refusal::BadZookie => (5, "BadZookie"),
-            Refusal::WrongStore => (6, "WrongStore"),
-        }
-    }
-}
+const BAD_REQUEST: Refusal = (1, "BadRequest");
+const BAD_TUPLE: Refusal = (2, "BadTuple");
+pub const TOO_LARGE: Refusal = (3, "TooLarge");
 
 #[allow(dead_code)]
 pub struct Write {
@@ -33,11 +18,12 @@ pub struct Write {
     pub conditions: Vec<Condition>,
 }
 
+/// From which place on, or at which, by tokens or by numbers.
 #[allow(dead_code)]
-pub enum Freshness {
+pub enum Freshness<T> {
     Latest,
-    AtLeast(u64),
-    Exact(u64),
+    AtLeast(T),
+    Exact(T),
 }
 
 #[allow(dead_code)]
@@ -50,98 +36,90 @@ pub enum Tupleset {
 #[allow(dead_code)]
 pub enum Request {
     Write(Write),
-    Read(Freshness, Vec<Tupleset>),
-    Check(Freshness, Tuple),
+    Read(Freshness<u64>, Vec<Tupleset>),
+    Check(Freshness<u64>, Tuple),
     Watch(u64, u64, Vec<Vec<u8>>),
 }
 
 type Members = Map<String, Value>;
 
 fn only(members: &Members, keys: &[&str]) -> Result<(), Refusal> {
-    match members.keys().all(|key| keys.contains(&key.as_str())) {
-        true => Ok(()),
-        false => Err(Refusal::BadRequest),
-    }
+    if members.keys().all(|key| keys.contains(&key.as_str())) { Ok(()) } else { Err(BAD_REQUEST) }
+}
+
+fn string(value: &Value) -> Result<&str, Refusal> {
+    value.as_str().ok_or(BAD_REQUEST)
 }
 
 fn text<'a>(members: &'a Members, key: &str) -> Result<&'a str, Refusal> {
-    members.get(key).and_then(Value::as_str).ok_or(Refusal::BadRequest)
+    members.get(key).ok_or(BAD_REQUEST).and_then(string)
 }
 
 fn list<'a>(members: &'a Members, key: &str) -> Result<&'a [Value], Refusal> {
-    match members.get(key).and_then(Value::as_array) {
-        Some(values) if !values.is_empty() => Ok(values),
-        _ => Err(Refusal::BadRequest),
-    }
+    let values = members.get(key).and_then(Value::as_array).ok_or(BAD_REQUEST)?;
+    if values.is_empty() { Err(BAD_REQUEST) } else { Ok(values) }
 }
 
 fn texts<'a>(members: &'a Members, key: &str) -> Result<Vec<&'a str>, Refusal> {
-    list(members, key)?.iter().map(|value| value.as_str().ok_or(Refusal::BadRequest)).collect()
+    let texts: Vec<_> = list(members, key)?.iter().map(string).collect::<Result<_, _>>()?;
+    if texts.len() > 16 { Err(TOO_LARGE) } else { Ok(texts) }
 }
 
 fn place_of(zookie: &str, store: u64) -> Result<u64, Refusal> {
     match token::decode(zookie) {
         Some((of, place)) if of == store => Ok(place),
-        Some(_) => Err(Refusal::WrongStore),
-        None => Err(Refusal::BadZookie),
+        Some(_) => Err((6, "WrongStore")),
+        None => Err((5, "BadZookie")),
     }
 }
 
 fn tuple_of(text: &str) -> Result<Tuple, Refusal> {
-    texts::tuple_of(text.as_bytes()).ok_or(Refusal::BadTuple)
+    texts::tuple_of(text.as_bytes()).ok_or(BAD_TUPLE)
 }
 
-enum Fresh<'a> {
-    Latest,
-    AtLeast(&'a str),
-    Exact(&'a str),
-}
-
-impl Fresh<'_> {
-    fn read<'a>(members: &'a Members, asked: &str) -> Result<Fresh<'a>, Refusal> {
-        only(members, &["op", asked, "at_least", "exact"])?;
-        match (members.get("at_least"), members.get("exact")) {
-            (None, None) => Ok(Fresh::Latest),
-            (Some(zookie), None) => Ok(Fresh::AtLeast(zookie.as_str().ok_or(Refusal::BadRequest)?)),
-            (None, Some(zookie)) => Ok(Fresh::Exact(zookie.as_str().ok_or(Refusal::BadRequest)?)),
-            (Some(_), Some(_)) => Err(Refusal::BadRequest),
-        }
+fn freshness<'a>(members: &'a Members, asked: &str) -> Result<Freshness<&'a str>, Refusal> {
+    only(members, &["op", asked, "at_least", "exact"])?;
+    match (members.get("at_least"), members.get("exact")) {
+        (None, None) => Ok(Freshness::Latest),
+        (Some(zookie), None) => string(zookie).map(Freshness::AtLeast),
+        (None, Some(zookie)) => string(zookie).map(Freshness::Exact),
+        (Some(_), Some(_)) => Err(BAD_REQUEST),
     }
+}
 
-    fn placed(&self, store: u64) -> Result<Freshness, Refusal> {
-        Ok(match self {
-            Fresh::Latest => Freshness::Latest,
-            Fresh::AtLeast(zookie) => Freshness::AtLeast(place_of(zookie, store)?),
-            Fresh::Exact(zookie) => Freshness::Exact(place_of(zookie, store)?),
-        })
+impl Freshness<&str> {
+    fn placed(&self, store: u64) -> Result<Freshness<u64>, Refusal> {
+        match self {
+            Freshness::Latest => Ok(Freshness::Latest),
+            Freshness::AtLeast(zookie) => place_of(zookie, store).map(Freshness::AtLeast),
+            Freshness::Exact(zookie) => place_of(zookie, store).map(Freshness::Exact),
+        }
     }
 }
 
 fn change_shape(value: &Value) -> Result<(bool, &str), Refusal> {
-    let members = value.as_object().ok_or(Refusal::BadRequest)?;
+    let members = value.as_object().ok_or(BAD_REQUEST)?;
     only(members, &["op", "tuple"])?;
+    let tuple = text(members, "tuple")?;
     match text(members, "op")? {
-        "touch" => Ok((true, text(members, "tuple")?)),
-        "delete" => Ok((false, text(members, "tuple")?)),
-        _ => Err(Refusal::BadRequest),
+        "touch" => Ok((true, tuple)),
+        "delete" => Ok((false, tuple)),
+        _ => Err(BAD_REQUEST),
     }
 }
 
-enum Wanted<'a> {
-    Since(&'a str),
-    Exists,
-    Absent,
-}
+/// What a condition asks for, or the token of the place behind which nothing may have changed.
+type Wanted<'a> = Result<Want, &'a str>;
 
 fn condition_shape(value: &Value) -> Result<(&str, Wanted<'_>), Refusal> {
-    let members = value.as_object().ok_or(Refusal::BadRequest)?;
+    let members = value.as_object().ok_or(BAD_REQUEST)?;
     only(members, &["since", "tuple", "want"])?;
     let tuple = text(members, "tuple")?;
     match (members.get("since"), members.get("want").map(Value::as_str)) {
-        (Some(zookie), None) => Ok((tuple, Wanted::Since(zookie.as_str().ok_or(Refusal::BadRequest)?))),
-        (None, Some(Some("exists"))) => Ok((tuple, Wanted::Exists)),
-        (None, Some(Some("absent"))) => Ok((tuple, Wanted::Absent)),
-        _ => Err(Refusal::BadRequest),
+        (Some(zookie), None) => Ok((tuple, Err(string(zookie)?))),
+        (None, Some(Some("exists"))) => Ok((tuple, Ok(Want::Exists))),
+        (None, Some(Some("absent"))) => Ok((tuple, Ok(Want::Absent))),
+        _ => Err(BAD_REQUEST),
     }
 }
 
@@ -161,25 +139,17 @@ fn write_of(members: &Members, store: u64) -> Result<Request, Refusal> {
     let changes: Vec<_> = list(members, "changes")?.iter().map(change_shape).collect::<Result<_, _>>()?;
     let conditions: Vec<_> = match members.get("conditions") {
         None => Vec::new(),
-        Some(value) => value.as_array().ok_or(Refusal::BadRequest)?.iter().map(condition_shape).collect::<Result<_, _>>()?,
+        Some(value) => value.as_array().ok_or(BAD_REQUEST)?.iter().map(condition_shape).collect::<Result<_, _>>()?,
     };
     if changes.len() > 64 || conditions.len() > 16 {
-        return Err(Refusal::TooLarge);
+        return Err(TOO_LARGE);
     }
     let touched: Vec<Tuple> = changes.iter().map(|(_, text)| tuple_of(text)).collect::<Result<_, _>>()?;
     let asked: Vec<Tuple> = conditions.iter().map(|(text, _)| tuple_of(text)).collect::<Result<_, _>>()?;
-    let wants: Vec<Want> = conditions
-        .iter()
-        .map(|(_, want)| {
-            Ok(match want {
-                Wanted::Since(zookie) => Want::NotAfter(place_of(zookie, store)?),
-                Wanted::Exists => Want::Exists,
-                Wanted::Absent => Want::Absent,
-            })
-        })
-        .collect::<Result<_, _>>()?;
+    let since = |zookie| place_of(zookie, store).map(Want::NotAfter);
+    let wants: Vec<Want> = conditions.into_iter().map(|(_, want)| want.or_else(since)).collect::<Result<_, _>>()?;
     if !are_distinct(touched.iter()) || !are_distinct(asked.iter()) {
-        return Err(Refusal::Repeated);
+        return Err((4, "Repeated"));
     }
     let changes = changes.iter().zip(touched).map(|((is_touch, _), tuple)| if *is_touch { Change::Touch(tuple) } else { Change::Delete(tuple) }).collect();
     let conditions = asked.into_iter().zip(wants).map(|(tuple, want)| Condition { tuple, want }).collect();
@@ -187,12 +157,9 @@ fn write_of(members: &Members, store: u64) -> Result<Request, Refusal> {
 }
 
 fn read_of(members: &Members, store: u64) -> Result<Request, Refusal> {
-    let fresh = Fresh::read(members, "sets")?;
+    let fresh = freshness(members, "sets")?;
     let sets = texts(members, "sets")?;
-    if sets.len() > 16 {
-        return Err(Refusal::TooLarge);
-    }
-    let sets = sets.iter().map(|text| set_of(text.as_bytes()).ok_or(Refusal::BadTuple)).collect::<Result<_, _>>()?;
+    let sets = sets.iter().map(|text| set_of(text.as_bytes()).ok_or(BAD_TUPLE)).collect::<Result<_, _>>()?;
     Ok(Request::Read(fresh.placed(store)?, sets))
 }
 
@@ -222,29 +189,26 @@ fn watch_of(members: &Members, store: u64) -> Result<Request, Refusal> {
     let from = text(members, "from")?;
     let limit = match members.get("limit").and_then(Value::as_u64) {
         Some(limit @ 1..=256) => limit,
-        _ => return Err(Refusal::BadRequest),
+        _ => return Err(BAD_REQUEST),
     };
     let namespaces = texts(members, "namespaces")?;
-    if namespaces.len() > 16 {
-        return Err(Refusal::TooLarge);
-    }
-    let namespaces = namespaces.iter().map(|text| name(text.as_bytes()).ok_or(Refusal::BadTuple)).collect::<Result<_, _>>()?;
+    let namespaces = namespaces.iter().map(|text| name(text.as_bytes()).ok_or(BAD_TUPLE)).collect::<Result<_, _>>()?;
     Ok(Request::Watch(place_of(from, store)?, limit, namespaces))
 }
 
 /// The request of a line at this store.
 pub fn parse(line: &[u8], store: u64) -> Result<Request, Refusal> {
-    let value: Value = serde_json::from_slice(line).map_err(|_| Refusal::BadRequest)?;
-    let members = value.as_object().ok_or(Refusal::BadRequest)?;
+    let value: Value = serde_json::from_slice(line).map_err(|_| BAD_REQUEST)?;
+    let members = value.as_object().ok_or(BAD_REQUEST)?;
     match text(members, "op")? {
         "write" => write_of(members, store),
         "read" => read_of(members, store),
         "check" => {
-            let fresh = Fresh::read(members, "tuple")?;
+            let fresh = freshness(members, "tuple")?;
             let tuple = tuple_of(text(members, "tuple")?)?;
             Ok(Request::Check(fresh.placed(store)?, tuple))
         }
         "watch" => watch_of(members, store),
-        _ => Err(Refusal::BadRequest),
+        _ => Err(BAD_REQUEST),
     }
 }
