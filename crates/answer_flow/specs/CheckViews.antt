@@ -8,16 +8,17 @@ use Rattle.decisions.specs.Flows.{CheckHolds, Freshness}
 use Rattle.decisions.specs.Values.{BatchValue}
 use Rattle.names.specs.declared.call_name.CallName.{CallName}
 use Rattle.names.specs.declared.call_name.CallName.TheVariants as names
+use Rattle.calls.specs.declared.progress.Progress.{Progress}
+use Rattle.calls.specs.declared.progress.Progress.TheVariants.{Next, Ended}
 use Rattle.catch_up.specs.Held.{Awaited, CatchUpValue}
 use Rattle.answer_flow.specs.Walking.{WalkValue}
+use Rattle.answer_flow.specs.declared.check_phase.CheckDone.{CheckDone}
 use Rattle.answer_flow.specs.declared.check_phase.CheckEnd as ends
 use Rattle.answer_flow.specs.declared.check_phase.CheckEnd.TheVariants as end
 use Rattle.answer_flow.specs.declared.check_phase.Ready.{Ready}
 use Rattle.answer_flow.specs.declared.check_phase.Ready.TheVariants as ready
 use Rattle.answer_flow.specs.declared.check_phase.Out.{Out}
 use Rattle.answer_flow.specs.declared.check_phase.Out.TheVariants as out
-use Rattle.answer_flow.specs.declared.check_phase.Phase.{Phase}
-use Rattle.answer_flow.specs.declared.check_phase.Phase.TheVariants as phases
 
 -- What a check does next: it asks for heads, has the coordinator flushed, brings the shard up to the place, or has it read.
 pub data CheckStep : Type 0 where
@@ -38,20 +39,30 @@ pub data CheckEnding : Type 0 where
   checked : ℕ → Bool → CheckEnding
   refused : Refusal → CheckEnding
 
--- A check as its callers see it: what it does next; what it holds; the call that is out; and how it ended.
+-- What is seen of a check: what it does next; what it holds; the call that is out; and how it ended.
 pub record CheckView : Type 0 where
   pub next : CheckStep
   pub holds : CheckHolds
   pub awaited : Option CheckAwaited
   pub ended : Option CheckEnding
 
--- about this user, in a store of so many shards, with the name of its next call, if there is one
+-- Between two calls: about this user, in a store of so many shards, what it does next and holds, and the name of the call that comes.
 pub record CheckFlowValue : Type 0 where
   pub shards : ℕ
   pub fresh : Freshness
   pub user : User
-  pub seen : CheckView
-  pub next_name : Option CallName
+  pub next : CheckStep
+  pub holds : CheckHolds
+  pub next_name : CallName
+
+-- and while that call is out
+pub record CheckCallValue : Type 0 where
+  pub shards : ℕ
+  pub fresh : Freshness
+  pub user : User
+  pub step : CheckStep
+  pub awaited : CheckAwaited
+  pub holds : CheckHolds
 
 -- between two calls
 abbrev pub at_rest : CheckStep → CheckHolds → CheckView
@@ -76,6 +87,22 @@ ended end = record { next = heads; holds = nothing_walked; awaited = None; ended
 abbrev pub ending_of : ends.CheckEnd → CheckEnding
 ending_of (end.Answered place is_member) = checked place is_member
 ending_of (end.Refused e) = refused e
+
+-- what is seen between two calls, while one is out, and after the reply
+abbrev pub seen_of : CheckFlowValue → CheckView
+seen_of v = at_rest v.next v.holds
+
+abbrev pub seen_out : CheckCallValue → CheckView
+seen_out c = waiting c.step c.awaited c.holds
+
+abbrev pub seen_after : Progress CheckFlowValue CheckDone → CheckView
+seen_after (Next later) = seen_of later
+seen_after (Ended done) = ended (ending_of done.end)
+
+-- it is what was asked, and gives the user back at its end
+abbrev pub IsAsked : ℕ → Freshness → User → Progress CheckFlowValue CheckDone → Type 0
+IsAsked shards fresh user (Next later) = later ≡ record { shards = shards; fresh = fresh; user = user; next = later.next; holds = later.holds; next_name = later.next_name }
+IsAsked shards fresh user (Ended done) = done.user ≡ user
 
 -- what was walked and what waits is held, at a place once it is found
 abbrev pub holding_walk : WalkValue → Option ℕ → Option BatchValue → CheckHolds
@@ -113,38 +140,23 @@ holds_out (out.Flush w) = holding_walk w None None
 holds_out (out.CatchUp place w c) = holding_walk w (Some place) c.held.batch
 holds_out (out.Read place w) = holding_walk w (Some place) None
 
--- what is seen of each phase
+-- what is seen of each
 abbrev pub view_ready : Ready → CheckView
 view_ready r = at_rest (step_ready r) (holds_ready r)
 
 abbrev pub view_out : Out → CheckView
 view_out o = waiting (step_out o) (awaited_of o) (holds_out o)
 
-abbrev pub view_of : Phase → CheckView
-view_of (phases.Ready r) = view_ready r
-view_of (phases.Out o) = view_out o
-view_of (phases.Ended end) = ended (ending_of end)
+abbrev pub view_of : Progress Ready ends.CheckEnd → CheckView
+view_of (Next r) = view_ready r
+view_of (Ended end) = ended (ending_of end)
 
--- of the phase that a check is in; it is taken out only within a call
-abbrev pub view_in : Option Phase → CheckView
-view_in None = at_rest heads nothing_walked
-view_in (Some p) = view_of p
-
--- the name of its next call, if there is one
+-- the name of its next call
 abbrev pub name_ready : Ready → CallName
 name_ready (ready.Heads w) = names.Heads
 name_ready (ready.Flush w) = names.Flush
 name_ready (ready.CatchUp place w c) = c.next
 name_ready (ready.Read place w q) = names.Read
-
-abbrev pub name_of : Phase → Option CallName
-name_of (phases.Ready r) = Some (name_ready r)
-name_of (phases.Out o) = None
-name_of (phases.Ended end) = None
-
-abbrev pub name_in : Option Phase → Option CallName
-name_in None = None
-name_in (Some p) = name_of p
 
 -- this one waits first
 abbrev pub IsFirst : WalkValue → Userset → Type 0
@@ -158,7 +170,7 @@ pub record IsOnItsWay (shards place : ℕ) (w : WalkValue) (c : CatchUpValue) : 
   pub there : c.shard < shards
   pub to : c.to ≡ place
 
--- what a check of this user keeps in each phase
+-- what a check of this user keeps between two calls, and while one is out
 abbrev pub IsReadyOf : ℕ → User → Ready → Type 0
 IsReadyOf shards user (ready.Heads w) = Unit {0}
 IsReadyOf shards user (ready.Flush w) = Unit {0}
@@ -170,17 +182,3 @@ IsOutOf shards (out.Heads w) = Unit {0}
 IsOutOf shards (out.Flush w) = Unit {0}
 IsOutOf shards (out.CatchUp place w c) = IsOnItsWay shards place w c.held
 IsOutOf shards (out.Read place w) = Unit {0}
-
-abbrev pub IsPhaseOf : ℕ → User → Phase → Type 0
-IsPhaseOf shards user (phases.Ready r) = IsReadyOf shards user r
-IsPhaseOf shards user (phases.Out o) = IsOutOf shards o
-IsPhaseOf shards user (phases.Ended end) = Unit {0}
-
--- a check is in one of them
-abbrev pub IsIn : ℕ → User → Option Phase → Type 0
-IsIn shards user None = ⊥
-IsIn shards user (Some p) = IsPhaseOf shards user p
-
--- behind a reply it waits for no other
-abbrev pub IsBehindOf : ℕ → User → Phase → Type 0
-IsBehindOf shards user p = IsPhaseOf shards user p × ((view_of p).awaited ≡ None)

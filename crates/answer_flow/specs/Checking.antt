@@ -101,7 +101,7 @@ pub record CatchUpGives (v : CheckView) (awaited : Awaited) (reply : Reply) (aft
 
 -- It stays as it is; or the shard of the first that waits is read before it is asked how far it has learned, as where it has told that it is there.
 abbrev pub HastensCheck : CheckView → CheckView → Type 0
-HastensCheck v after = (after ≡ v) ⊎ ((v.ended ≡ None) × (v.awaited ≡ None) × ((after ≡ at_rest read (record v.holds { batch = None })) ⊎ LacksMemory after))
+HastensCheck v after = (after ≡ v) ⊎ ((after ≡ at_rest read (record v.holds { batch = None })) ⊎ LacksMemory after)
 
 -- The rows of the userset that was walked: yes where they have the user; else it was walked, and those wait that it names for the first time.
 pub record RowsGive (user : User) (place : ℕ) (h : CheckHolds) (y : Userset) (rows : List Tuple) (after : CheckView) : Type 0 where

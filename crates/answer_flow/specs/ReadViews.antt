@@ -10,16 +10,17 @@ use Rattle.decisions.specs.Flows.{Freshness, ReadHolds, nothing_read}
 use Rattle.decisions.specs.Values.{BatchValue}
 use Rattle.names.specs.declared.call_name.CallName.{CallName}
 use Rattle.names.specs.declared.call_name.CallName.TheVariants as names
+use Rattle.calls.specs.declared.progress.Progress.{Progress}
+use Rattle.calls.specs.declared.progress.Progress.TheVariants.{Next, Ended}
 use Rattle.catch_up.specs.Held.{Awaited, CatchUpValue}
 use Rattle.answer_flow.specs.declared.read_phase.Gathered.{Gathered}
+use Rattle.answer_flow.specs.declared.read_phase.ReadDone.{ReadDone}
 use Rattle.answer_flow.specs.declared.read_phase.ReadEnd as ends
 use Rattle.answer_flow.specs.declared.read_phase.ReadEnd.TheVariants as end
 use Rattle.answer_flow.specs.declared.read_phase.Ready.{Ready}
 use Rattle.answer_flow.specs.declared.read_phase.Ready.TheVariants as ready
 use Rattle.answer_flow.specs.declared.read_phase.Out.{Out}
 use Rattle.answer_flow.specs.declared.read_phase.Out.TheVariants as out
-use Rattle.answer_flow.specs.declared.read_phase.Phase.{Phase}
-use Rattle.answer_flow.specs.declared.read_phase.Phase.TheVariants as phases
 
 -- What a read does next: it asks for heads, has the coordinator flushed, brings the shard up to the place, or has it read.
 pub data ReadStep : Type 0 where
@@ -40,20 +41,30 @@ pub data ReadEnding : Type 0 where
   selected : ℕ → List (List Tuple) → ReadEnding
   refused : Refusal → ReadEnding
 
--- A read as its callers see it: what it does next; what it holds; the call that is out; and how it ended.
+-- What is seen of a read: what it does next; what it holds; the call that is out; and how it ended.
 pub record ReadView : Type 0 where
   pub next : ReadStep
   pub holds : ReadHolds
   pub awaited : Option ReadAwaited
   pub ended : Option ReadEnding
 
--- of these tuplesets, in a store of so many shards, with the name of its next call, if there is one
+-- Between two calls: of these tuplesets, in a store of so many shards, what it does next and holds, and the name of the call that comes.
 pub record ReadFlowValue : Type 0 where
   pub shards : ℕ
   pub fresh : Freshness
   pub sets : List Tupleset
-  pub seen : ReadView
-  pub next_name : Option CallName
+  pub next : ReadStep
+  pub holds : ReadHolds
+  pub next_name : CallName
+
+-- and while that call is out
+pub record ReadCallValue : Type 0 where
+  pub shards : ℕ
+  pub fresh : Freshness
+  pub sets : List Tupleset
+  pub step : ReadStep
+  pub awaited : ReadAwaited
+  pub holds : ReadHolds
 
 -- the shard that a tupleset asks, where those below a number are done: that of its object, or the next one
 abbrev pub shard_for : ℕ → Tupleset → ℕ → ℕ
@@ -85,6 +96,22 @@ rows_of = map (λ (rows : Vec Tuple). rows.items)
 abbrev pub ending_of : ends.ReadEnd → ReadEnding
 ending_of (end.Answered place done) = selected place (rows_of done.items)
 ending_of (end.Refused e) = refused e
+
+-- what is seen between two calls, while one is out, and after the reply
+abbrev pub seen_of : ReadFlowValue → ReadView
+seen_of v = at_rest v.next v.holds
+
+abbrev pub seen_out : ReadCallValue → ReadView
+seen_out c = waiting c.step c.awaited c.holds
+
+abbrev pub seen_after : Progress ReadFlowValue ReadDone → ReadView
+seen_after (Next later) = seen_of later
+seen_after (Ended done) = ended (ending_of done.end)
+
+-- it is what was asked, and gives the tuplesets back at its end
+abbrev pub IsAsked : ℕ → Freshness → List Tupleset → Progress ReadFlowValue ReadDone → Type 0
+IsAsked shards fresh sets (Next later) = later ≡ record { shards = shards; fresh = fresh; sets = sets; next = later.next; holds = later.holds; next_name = later.next_name }
+IsAsked shards fresh sets (Ended done) = done.sets.items ≡ sets
 
 -- what was gathered is held
 abbrev pub holding : Gathered → Option BatchValue → ReadHolds
@@ -122,38 +149,23 @@ holds_out out.Flush = nothing_read
 holds_out (out.CatchUp g set c) = holding g c.held.batch
 holds_out (out.Read g) = holding g None
 
--- what is seen of each phase
+-- what is seen of each
 abbrev pub view_ready : Ready → ReadView
 view_ready r = at_rest (step_ready r) (holds_ready r)
 
 abbrev pub view_out : Out → ReadView
 view_out o = waiting (step_out o) (awaited_of o) (holds_out o)
 
-abbrev pub view_of : Phase → ReadView
-view_of (phases.Ready r) = view_ready r
-view_of (phases.Out o) = view_out o
-view_of (phases.Ended end) = ended (ending_of end)
+abbrev pub view_of : Progress Ready ends.ReadEnd → ReadView
+view_of (Next r) = view_ready r
+view_of (Ended end) = ended (ending_of end)
 
--- of the phase that a read is in; it is taken out only within a call
-abbrev pub view_in : Option Phase → ReadView
-view_in None = at_rest heads nothing_read
-view_in (Some p) = view_of p
-
--- the name of its next call, if there is one
+-- the name of its next call
 abbrev pub name_ready : Ready → CallName
 name_ready ready.Heads = names.Heads
 name_ready ready.Flush = names.Flush
 name_ready (ready.CatchUp g set c) = c.next
 name_ready (ready.Read g set) = names.Read
-
-abbrev pub name_of : Phase → Option CallName
-name_of (phases.Ready r) = Some (name_ready r)
-name_of (phases.Out o) = None
-name_of (phases.Ended end) = None
-
-abbrev pub name_in : Option Phase → Option CallName
-name_in None = None
-name_in (Some p) = name_of p
 
 -- the next tupleset is this one, and a shard of it is asked next
 pub record IsNext (shards : ℕ) (sets : List Tupleset) (g : Gathered) (set : Tupleset) : Type 0 where
@@ -166,7 +178,7 @@ pub record IsOnItsWay (shards : ℕ) (g : Gathered) (set : Tupleset) (c : CatchU
   pub there : c.shard < shards
   pub to : c.to ≡ g.place
 
--- what a read of these tuplesets keeps in each phase
+-- what a read of these tuplesets keeps between two calls, and while one is out
 abbrev pub IsReadyOf : ℕ → List Tupleset → Ready → Type 0
 IsReadyOf shards sets ready.Heads = Unit {0}
 IsReadyOf shards sets ready.Flush = Unit {0}
@@ -178,17 +190,3 @@ IsOutOf shards sets out.Heads = Unit {0}
 IsOutOf shards sets out.Flush = Unit {0}
 IsOutOf shards sets (out.CatchUp g set c) = IsNext shards sets g set × IsOnItsWay shards g set c.held
 IsOutOf shards sets (out.Read g) = g.below < shards
-
-abbrev pub IsPhaseOf : ℕ → List Tupleset → Phase → Type 0
-IsPhaseOf shards sets (phases.Ready r) = IsReadyOf shards sets r
-IsPhaseOf shards sets (phases.Out o) = IsOutOf shards sets o
-IsPhaseOf shards sets (phases.Ended end) = Unit {0}
-
--- a read is in one of them
-abbrev pub IsIn : ℕ → List Tupleset → Option Phase → Type 0
-IsIn shards sets None = ⊥
-IsIn shards sets (Some p) = IsPhaseOf shards sets p
-
--- behind a reply it waits for no other
-abbrev pub IsBehindOf : ℕ → List Tupleset → Phase → Type 0
-IsBehindOf shards sets p = IsPhaseOf shards sets p × ((view_of p).awaited ≡ None)

@@ -98,7 +98,7 @@ pub record CatchUpGives (v : ReadView) (awaited : Awaited) (reply : Reply) (afte
 
 -- It stays as it is; or the shard reads before it is asked how far it has learned, as where it has told that it is there.
 abbrev pub HastensRead : ReadView → ReadView → Type 0
-HastensRead v after = (after ≡ v) ⊎ ((v.ended ≡ None) × (v.awaited ≡ None) × (after ≡ at_rest read (record v.holds { batch = None })))
+HastensRead v after = (after ≡ v) ⊎ (after ≡ at_rest read (record v.holds { batch = None }))
 
 -- the tupleset is done with these rows
 abbrev pub Finishes : List Tupleset → ℕ → ReadHolds → List Tuple → ReadView → Type 0

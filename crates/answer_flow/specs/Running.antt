@@ -1,44 +1,51 @@
 -- Reads, checks and watches as they run: the call that each asks for, the reply that it waits for, and what that makes of it.
-use Rattle.std.specs.Prelude.{◌≡◌, Some, None, MatchOption}
+use Rattle.std.specs.Prelude.{◌≡◌}
 use Rattle.calls.specs.Names.{name_of}
 use Rattle.calls.specs.declared.call.NodeCall.{NodeCall}
+use Rattle.calls.specs.declared.progress.Progress.{Progress}
 use Rattle.calls.specs.declared.reply.Reply.{Reply}
 use Rattle.answer_flow.specs.Reading as reads
-use Rattle.answer_flow.specs.ReadViews.{ReadFlowValue}
+use Rattle.answer_flow.specs.ReadViews as read_views
+use Rattle.answer_flow.specs.ReadViews.{ReadCallValue, ReadFlowValue}
 use Rattle.answer_flow.specs.Checking as checks
-use Rattle.answer_flow.specs.CheckViews.{CheckFlowValue}
+use Rattle.answer_flow.specs.CheckViews as check_views
+use Rattle.answer_flow.specs.CheckViews.{CheckCallValue, CheckFlowValue}
 use Rattle.answer_flow.specs.Watching as watches
-use Rattle.answer_flow.specs.WatchViews.{WatchFlowValue, next_name_of}
+use Rattle.answer_flow.specs.WatchViews as watch_views
+use Rattle.answer_flow.specs.WatchViews.{WatchCallValue, WatchFlowValue}
+use Rattle.answer_flow.specs.declared.check_phase.CheckDone.{CheckDone}
+use Rattle.answer_flow.specs.declared.read_phase.ReadDone.{ReadDone}
+use Rattle.answer_flow.specs.declared.watch_phase.WatchEnd.{WatchEnd}
 
 -- Which call each makes, the one that is told as its next, and what it is while that is out.
-abbrev pub AsksRead : ReadFlowValue → NodeCall → ReadFlowValue → Type 0
-AsksRead old call out = (old.next_name ≡ Some (name_of call)) × (out ≡ record old { seen = out.seen; next_name = None }) × reads.Asks old.shards old.sets old.seen call out.seen
+abbrev pub AsksRead : ReadFlowValue → NodeCall → ReadCallValue → Type 0
+AsksRead v call out = (name_of call ≡ v.next_name) × (out ≡ record { shards = v.shards; fresh = v.fresh; sets = v.sets; step = out.step; awaited = out.awaited; holds = out.holds })
+    × reads.Asks v.shards v.sets (read_views.seen_of v) call (read_views.seen_out out)
 
-abbrev pub AsksCheck : CheckFlowValue → NodeCall → CheckFlowValue → Type 0
-AsksCheck old call out = (old.next_name ≡ Some (name_of call)) × (out ≡ record old { seen = out.seen; next_name = None }) × checks.Asks old.shards old.user old.seen call out.seen
+abbrev pub AsksCheck : CheckFlowValue → NodeCall → CheckCallValue → Type 0
+AsksCheck v call out = (name_of call ≡ v.next_name) × (out ≡ record { shards = v.shards; fresh = v.fresh; user = v.user; step = out.step; awaited = out.awaited; holds = out.holds })
+    × checks.Asks v.shards v.user (check_views.seen_of v) call (check_views.seen_out out)
 
-abbrev pub AsksWatch : WatchFlowValue → NodeCall → WatchFlowValue → Type 0
-AsksWatch old call out = (next_name_of old.seen ≡ Some (name_of call)) × (out ≡ record old { seen = out.seen }) × watches.Asks old.cursor old.limit old.seen call out.seen
+abbrev pub AsksWatch : WatchFlowValue → NodeCall → WatchCallValue → Type 0
+AsksWatch v call out = (name_of call ≡ watch_views.name_of v.next) × (out ≡ record { cursor = v.cursor; limit = v.limit; namespaces = v.namespaces; awaited = out.awaited; holds = out.holds })
+    × watches.Asks v.cursor v.limit (watch_views.seen_of v) call (watch_views.seen_out out)
 
--- a call is out, and this may be its reply
-abbrev pub AwaitsRead : ReadFlowValue → Reply → Type 0
-AwaitsRead out reply = MatchOption out.seen.awaited ⊥ (λ awaited. reads.Fits out.sets out.seen awaited reply)
+-- this may be the reply to the call that is out
+abbrev pub AwaitsRead : ReadCallValue → Reply → Type 0
+AwaitsRead out reply = reads.Fits out.sets (read_views.seen_out out) out.awaited reply
 
-abbrev pub AwaitsCheck : CheckFlowValue → Reply → Type 0
-AwaitsCheck out reply = MatchOption out.seen.awaited ⊥ (λ awaited. checks.Fits awaited reply)
+abbrev pub AwaitsCheck : CheckCallValue → Reply → Type 0
+AwaitsCheck out reply = checks.Fits out.awaited reply
 
-abbrev pub AwaitsWatch : WatchFlowValue → Reply → Type 0
-AwaitsWatch out reply = MatchOption out.seen.awaited ⊥ (λ awaited. watches.Fits awaited reply)
+abbrev pub AwaitsWatch : WatchCallValue → Reply → Type 0
+AwaitsWatch out reply = watches.Fits out.awaited reply
 
--- What the reply to the call that is out makes of each: behind it none is out.
-abbrev pub GivesRead : ReadFlowValue → Reply → ReadFlowValue → Type 0
-GivesRead out reply later = (later ≡ record out { seen = later.seen; next_name = later.next_name })
-    × MatchOption out.seen.awaited ⊥ (λ awaited. reads.GivesTo out.shards out.fresh out.sets out.seen awaited reply later.seen) × (later.seen.awaited ≡ None)
+-- What the reply to the call that is out makes of each.
+abbrev pub GivesRead : ReadCallValue → Reply → Progress ReadFlowValue ReadDone → Type 0
+GivesRead out reply after = read_views.IsAsked out.shards out.fresh out.sets after × reads.GivesTo out.shards out.fresh out.sets (read_views.seen_out out) out.awaited reply (read_views.seen_after after)
 
-abbrev pub GivesCheck : CheckFlowValue → Reply → CheckFlowValue → Type 0
-GivesCheck out reply later = (later ≡ record out { seen = later.seen; next_name = later.next_name })
-    × MatchOption out.seen.awaited ⊥ (λ awaited. checks.GivesTo out.fresh out.user out.seen awaited reply later.seen) × (later.seen.awaited ≡ None)
+abbrev pub GivesCheck : CheckCallValue → Reply → Progress CheckFlowValue CheckDone → Type 0
+GivesCheck out reply after = check_views.IsAsked out.shards out.fresh out.user after × checks.GivesTo out.fresh out.user (check_views.seen_out out) out.awaited reply (check_views.seen_after after)
 
-abbrev pub GivesWatch : WatchFlowValue → Reply → WatchFlowValue → Type 0
-GivesWatch out reply later = (later ≡ record out { seen = later.seen })
-    × MatchOption out.seen.awaited ⊥ (λ awaited. watches.GivesTo out.cursor out.limit out.namespaces out.seen awaited reply later.seen) × (later.seen.awaited ≡ None)
+abbrev pub GivesWatch : WatchCallValue → Reply → Progress WatchFlowValue WatchEnd → Type 0
+GivesWatch out reply after = watch_views.IsAsked out.cursor out.limit out.namespaces after × watches.GivesTo out.cursor out.limit out.namespaces (watch_views.seen_out out) out.awaited reply (watch_views.seen_after after)

@@ -6,23 +6,23 @@ use Rattle.names.specs.declared.call_name.CallName.{CallName}
 use Rattle.names.specs.declared.call_name.CallName.TheVariants as names
 use Rattle.decisions.specs.Flows.{HeadsHeld, no_heads}
 use Rattle.decisions.specs.Standing.{HeadsValue}
+use Rattle.calls.specs.declared.progress.Progress.{Progress}
+use Rattle.calls.specs.declared.progress.Progress.TheVariants.{Next, Ended}
 use Rattle.answer_flow.specs.declared.watch_phase.WatchEnd as ends
 use Rattle.answer_flow.specs.declared.watch_phase.WatchEnd.TheVariants as end
 use Rattle.answer_flow.specs.declared.watch_phase.Ready.{Ready}
 use Rattle.answer_flow.specs.declared.watch_phase.Ready.TheVariants as ready
 use Rattle.answer_flow.specs.declared.watch_phase.Out.{Out}
 use Rattle.answer_flow.specs.declared.watch_phase.Out.TheVariants as out
-use Rattle.answer_flow.specs.declared.watch_phase.Phase.{Phase}
-use Rattle.answer_flow.specs.declared.watch_phase.Phase.TheVariants as phases
 
--- A call of a watch: it asks for heads, has the coordinator flushed, or fetches the decisions behind its cursor.
-pub data WatchCall : Type 0 where
-  heads : WatchCall
-  flush : WatchCall
-  batch : WatchCall
+-- What a watch does next: it asks for heads, has the coordinator flushed, or fetches the decisions behind its cursor. Each is a call.
+pub data WatchStep : Type 0 where
+  heads : WatchStep
+  flush : WatchStep
+  batch : WatchStep
 
 -- what a call of it is called
-abbrev pub name_of : WatchCall → CallName
+abbrev pub name_of : WatchStep → CallName
 name_of heads = names.Heads
 name_of flush = names.Flush
 name_of batch = names.Batch
@@ -32,39 +32,39 @@ pub data WatchEnding : Type 0 where
   listed : ℕ → List Placed → WatchEnding
   refused : Refusal → WatchEnding
 
--- A watch as its callers see it: the call that comes next or is out; what it holds; whether a reply is awaited, and to which call; and how it ended.
+-- What is seen of a watch: the call that comes next or is out; what it holds; whether a reply is awaited, and to which call; and how it ended.
 pub record WatchView : Type 0 where
-  pub next : WatchCall
+  pub next : WatchStep
   pub holds : HeadsHeld
-  pub awaited : Option WatchCall
+  pub awaited : Option WatchStep
   pub ended : Option WatchEnding
 
--- the name of its next call: there is none where it has ended, and while a call is out
-abbrev pub name_unless : Option WatchEnding → Option WatchCall → WatchCall → Option CallName
-name_unless None None next = Some (name_of next)
-name_unless None (Some call) next = None
-name_unless (Some end) awaited next = None
-
-abbrev pub next_name_of : WatchView → Option CallName
-next_name_of v = name_unless v.ended v.awaited v.next
-
--- of these places and namespaces
+-- Between two calls: of these places and namespaces, what it does next and holds.
 pub record WatchFlowValue : Type 0 where
   pub cursor : ℕ
   pub limit : ℕ
   pub namespaces : List (List ℕ)
-  pub seen : WatchView
+  pub next : WatchStep
+  pub holds : HeadsHeld
+
+-- and while a call is out
+pub record WatchCallValue : Type 0 where
+  pub cursor : ℕ
+  pub limit : ℕ
+  pub namespaces : List (List ℕ)
+  pub awaited : WatchStep
+  pub holds : HeadsHeld
 
 -- the heads by which it found that its cursor is in the log
 abbrev pub with_heads : HeadsValue → HeadsHeld
 with_heads v = record { heads = Some v; batch = None }
 
 -- between two calls
-abbrev pub at_rest : WatchCall → HeadsHeld → WatchView
+abbrev pub at_rest : WatchStep → HeadsHeld → WatchView
 at_rest next holds = record { next = next; holds = holds; awaited = None; ended = None }
 
 -- while a call is out
-abbrev pub waiting : WatchCall → HeadsHeld → WatchView
+abbrev pub waiting : WatchStep → HeadsHeld → WatchView
 waiting call holds = record { next = call; holds = holds; awaited = Some call; ended = None }
 
 -- when it has ended
@@ -75,14 +75,35 @@ abbrev pub ending_of : ends.WatchEnd → WatchEnding
 ending_of (end.Answered place events) = listed place events.items
 ending_of (end.Refused e) = refused e
 
--- what is seen of each phase
-abbrev pub view_ready : Ready → WatchView
-view_ready ready.Heads = at_rest heads no_heads
-view_ready ready.Flush = at_rest flush no_heads
-view_ready (ready.Batch v) = at_rest batch (with_heads v)
+-- what is seen between two calls, while one is out, and after the reply
+abbrev pub seen_of : WatchFlowValue → WatchView
+seen_of v = at_rest v.next v.holds
+
+abbrev pub seen_out : WatchCallValue → WatchView
+seen_out c = waiting c.awaited c.holds
+
+abbrev pub seen_after : Progress WatchFlowValue ends.WatchEnd → WatchView
+seen_after (Next later) = seen_of later
+seen_after (Ended end) = ended (ending_of end)
+
+-- it is what was asked
+abbrev pub IsAsked : ℕ → ℕ → List (List ℕ) → Progress WatchFlowValue ends.WatchEnd → Type 0
+IsAsked cursor limit names (Next later) = later ≡ record { cursor = cursor; limit = limit; namespaces = names; next = later.next; holds = later.holds }
+IsAsked cursor limit names (Ended end) = Unit {0}
+
+-- what it does next, and what it holds, between two calls
+abbrev pub step_ready : Ready → WatchStep
+step_ready ready.Heads = heads
+step_ready ready.Flush = flush
+step_ready (ready.Batch v) = batch
+
+abbrev pub holds_ready : Ready → HeadsHeld
+holds_ready ready.Heads = no_heads
+holds_ready ready.Flush = no_heads
+holds_ready (ready.Batch v) = with_heads v
 
 -- the call that is out
-abbrev pub awaited_of : Out → WatchCall
+abbrev pub awaited_of : Out → WatchStep
 awaited_of out.Heads = heads
 awaited_of out.Flush = flush
 awaited_of (out.Batch v) = batch
@@ -93,18 +114,16 @@ held_by out.Heads = no_heads
 held_by out.Flush = no_heads
 held_by (out.Batch v) = with_heads v
 
+-- what is seen of each
+abbrev pub view_ready : Ready → WatchView
+view_ready r = at_rest (step_ready r) (holds_ready r)
+
 abbrev pub view_out : Out → WatchView
 view_out o = waiting (awaited_of o) (held_by o)
 
-abbrev pub view_of : Phase → WatchView
-view_of (phases.Ready r) = view_ready r
-view_of (phases.Out o) = view_out o
-view_of (phases.Ended end) = ended (ending_of end)
-
--- of the phase that a watch is in; it is taken out only within a call
-abbrev pub view_in : Option Phase → WatchView
-view_in None = at_rest heads no_heads
-view_in (Some p) = view_of p
+abbrev pub view_of : Progress Ready ends.WatchEnd → WatchView
+view_of (Next r) = view_ready r
+view_of (Ended end) = ended (ending_of end)
 
 -- by the heads that are held the cursor is kept
 abbrev pub IsReadyOf : ℕ → Ready → Type 0
@@ -116,17 +135,3 @@ abbrev pub IsOutOf : ℕ → Out → Type 0
 IsOutOf cursor out.Heads = Unit {0}
 IsOutOf cursor out.Flush = Unit {0}
 IsOutOf cursor (out.Batch v) = cursor ≤ v.kept
-
-abbrev pub IsPhaseOf : ℕ → Phase → Type 0
-IsPhaseOf cursor (phases.Ready r) = IsReadyOf cursor r
-IsPhaseOf cursor (phases.Out o) = IsOutOf cursor o
-IsPhaseOf cursor (phases.Ended end) = Unit {0}
-
--- a watch is in one of them
-abbrev pub IsIn : ℕ → Option Phase → Type 0
-IsIn cursor None = ⊥
-IsIn cursor (Some p) = IsPhaseOf cursor p
-
--- behind a reply it waits for no other
-abbrev pub IsBehindOf : ℕ → Phase → Type 0
-IsBehindOf cursor p = IsPhaseOf cursor p × ((view_of p).awaited ≡ None)

@@ -14,7 +14,7 @@ use Rattle.calls.specs.declared.reply.Reply.{Reply}
 use Rattle.calls.specs.declared.reply.Reply.TheVariants.{Coordinator as from_coordinator}
 use Rattle.calls.specs.declared.reply.CoordinatorReply.TheVariants as told
 use Rattle.answer_flow.specs.Finding.{FindsPlace, IsNotKept, IsRefused}
-use Rattle.answer_flow.specs.WatchViews.{WatchCall, WatchView, at_rest, batch, ended, flush, heads, listed, refused, waiting, with_heads}
+use Rattle.answer_flow.specs.WatchViews.{WatchStep, WatchView, at_rest, batch, ended, flush, heads, listed, refused, waiting, with_heads}
 
 -- the place up to which a watch lists all: so many behind its cursor, or the kept place
 abbrev pub heartbeat : ℕ → ℕ → HeadsValue → ℕ
@@ -51,14 +51,14 @@ BatchGives cursor limit names v (Ok b) after = ((held : HeadsValue) → v.holds 
 BatchGives cursor limit names v (Err e) after = after ≡ ended (refused e)
 
 -- What a reply makes of a watch that waits for it.
-abbrev pub GivesTo : ℕ → ℕ → List (List ℕ) → WatchView → WatchCall → Reply → WatchView → Type 0
+abbrev pub GivesTo : ℕ → ℕ → List (List ℕ) → WatchView → WatchStep → Reply → WatchView → Type 0
 GivesTo cursor limit names v heads (from_coordinator (told.Heads r)) after = HeadsGive cursor r after
 GivesTo cursor limit names v flush (from_coordinator (told.Flush r)) after = FlushGives r after
 GivesTo cursor limit names v batch (from_coordinator (told.Batch r)) after = BatchGives cursor limit names v r after
 GivesTo cursor limit names v call reply after = ⊥
 
 -- the reply is one to the call that is out
-abbrev pub Fits : WatchCall → Reply → Type 0
+abbrev pub Fits : WatchStep → Reply → Type 0
 Fits heads (from_coordinator (told.Heads r)) = Unit {0}
 Fits flush (from_coordinator (told.Flush r)) = Unit {0}
 Fits batch (from_coordinator (told.Batch r)) = Unit {0}

@@ -1,12 +1,14 @@
 // A check at a place that is known.
 ghost use Rattle.std.specs.Prelude.{◌≡◌, ◌≤◌, Some, IfOk};
 ghost use Rattle.decisions.specs.Flows.{exact};
-ghost use Rattle.answer_flow.specs.CheckViews.{at_rest, begins_at, catch_up};
+ghost use Rattle.names.specs.declared.call_name.CallName.TheVariants as names;
+ghost use Rattle.answer_flow.specs.CheckViews.{begins_at, catch_up as to_catch_up};
 
 use crate::check_flow::CheckFlow;
-use crate::check_phase::AskedCheck;
-use crate::checking::go_on;
+use crate::check_phase::{AskedCheck, Ready};
+use crate::checking::shard_to_ask;
 use crate::walk::Walk;
+use catch_up::CatchUp;
 use std::alloc::{AllocError, Global};
 use tuples::{Freshness, Shards, User, Userset};
 
@@ -20,20 +22,19 @@ impl CheckFlow {
         userset: &Userset,
         user: User,
     ) -> Result<CheckFlow, AllocError>
-        ensures asked { IfOk result (λ f. f ≡ record { shards = shards; fresh = exact place; user = user; seen = f.seen; next_name = f.next_name }) }
-        ensures begins { IfOk result (λ f. f.seen ≡ at_rest catch_up (record (begins_at userset.now) { place = Some place })) }
+        ensures { IfOk result (λ f. f ≡ record { shards = shards; fresh = exact place; user = user; next = to_catch_up; holds = record (begins_at userset.now) { place = Some place }; next_name = names.Learned }) }
     {
         let walk = Walk::new(alloc, userset)?;
-        let asked = AskedCheck {
-            alloc,
-            shards,
-            freshness: Freshness::Exact(place),
-            user,
-        };
-        let phase = go_on(&asked, place, walk);
+        let shard = shard_to_ask(userset, shards);
+        let catch_up = CatchUp::new(shard, place);
         Ok(CheckFlow {
-            asked,
-            phase: Some(phase),
+            asked: AskedCheck {
+                alloc,
+                shards,
+                freshness: Freshness::Exact(place),
+                user,
+            },
+            ready: Ready::CatchUp(place, walk, catch_up),
         })
     }
 }

@@ -1,6 +1,6 @@
 // Where a check is between two of its calls, and while one is out.
-ghost use Rattle.std.specs.Prelude.{◌≡◌, ◌≤◌, option_map};
-ghost use Rattle.answer_flow.specs.CheckViews.{ending_of, name_ready, view_of};
+ghost use Rattle.std.specs.Prelude.{◌≡◌, ◌≤◌};
+ghost use Rattle.answer_flow.specs.CheckViews.{name_ready};
 
 use crate::walk::Walk;
 use calls::Boxed;
@@ -24,6 +24,14 @@ pub enum CheckEnd {
     /// The place, and whether the user is a member there.
     Answered(u64, bool),
     Refused(Refusal),
+}
+
+/// A check that has ended.
+#[derive(Drop)]
+pub struct CheckDone {
+    pub end: CheckEnd,
+    /// About whom it was asked.
+    pub user: User,
 }
 
 /// What a shard is asked of a userset, about a user.
@@ -62,26 +70,4 @@ pub(crate) enum Out {
     Flush(Walk),
     CatchUp(u64, Walk, CatchUpCall),
     Read(u64, Walk),
-}
-
-#[derive(Drop)]
-pub(crate) enum Phase {
-    Ready(Ready),
-    Out(Out),
-    Ended(CheckEnd),
-}
-
-impl Phase {
-    /// How it ended, where it has.
-    pub(crate) fn into_end(self) -> Option<CheckEnd>
-        ensures { option_map ending_of result ≡ (view_of self).ended }
-    {
-        match self {
-            Phase::Ended(end) => Some(end),
-            other => {
-                drop(other);
-                None
-            }
-        }
-    }
 }

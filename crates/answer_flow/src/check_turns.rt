@@ -1,16 +1,17 @@
-// The turns of a check: the call of each phase, and what the reply makes of it.
+// The turns of a check: its next call, and what the reply makes of it.
 ghost use Rattle.std.specs.Prelude.{◌≡◌};
+ghost use Rattle.calls.specs.Flows.{IfNext};
 ghost use Rattle.calls.specs.Names.{name_of as name_of_call};
 ghost use Rattle.names.specs.declared.call_name.CallName.TheVariants as names;
 ghost use Rattle.answer_flow.specs.Checking.{Asks, Fits, GivesTo};
-ghost use Rattle.answer_flow.specs.CheckViews.{IsOutOf, IsReadyOf, IsBehindOf, awaited_of, name_ready, view_of, view_out, view_ready};
+ghost use Rattle.answer_flow.specs.CheckViews.{IsOutOf, IsReadyOf, awaited_of, name_ready, view_of, view_out, view_ready};
 ghost use Rattle.answer_flow.specs.declared.check_phase.Out.TheVariants as out_of;
 ghost use Rattle.answer_flow.specs.declared.check_phase.Ready.TheVariants as ready_of;
 
-use crate::check_phase::{AskedCheck, Out, Phase, Question, Ready};
+use crate::check_phase::{AskedCheck, CheckEnd, Out, Question, Ready};
 use crate::checking::{caught_up, flushed, have_read, shard_to_ask, told};
 use crate::walk::Walk;
-use calls::{CoordinatorCall, CoordinatorReply, NodeCall, Reply, ShardCall, ShardReply};
+use calls::{CoordinatorCall, CoordinatorReply, NodeCall, Progress, Reply, ShardCall, ShardReply};
 use catch_up::CatchUp;
 
 fn call_of_catch_up(
@@ -41,7 +42,7 @@ fn call_of_read(asked: &AskedCheck, place: u64, walk: Walk, question: Question) 
     (NodeCall::Shard(shard, call), Out::Read(place, walk))
 }
 
-/// The call of a phase, and the phase while it is out.
+/// Its next call, and what stays here while that is out.
 pub(crate) fn next(asked: &AskedCheck, ready: Ready) -> (NodeCall, Out)
     requires { IsReadyOf asked.now.shards asked.now.user ready }
     ensures name { name_of_call result.0 ≡ name_ready ready }
@@ -63,11 +64,11 @@ pub(crate) fn next(asked: &AskedCheck, ready: Ready) -> (NodeCall, Out)
 }
 
 /// What a reply makes of it.
-pub(crate) fn give(asked: &AskedCheck, out: Out, reply: Reply) -> Phase
+pub(crate) fn give(asked: &AskedCheck, out: Out, reply: Reply) -> Progress<Ready, CheckEnd>
     requires kept { IsOutOf asked.now.shards out }
     requires fits { Fits (awaited_of out) reply }
     ensures gives { GivesTo asked.now.freshness asked.now.user (view_out out) (awaited_of out) reply (view_of result) }
-    ensures kept { IsBehindOf asked.now.shards asked.now.user result }
+    ensures kept { IfNext result (IsReadyOf asked.now.shards asked.now.user) }
 {
     match out {
         Out::Heads(walk) => match reply {

@@ -1,33 +1,34 @@
 // What a check makes of the answers to its calls.
 ghost use Rattle.std.specs.Prelude.{◌≡◌, ◌≢◌, ◌⊎◌, ◌≤◌, ◌<◌, ◌↔◌, [], IfOk, IsTrue, Contains, MatchOption, Some, None, false};
+ghost use Rattle.calls.specs.Flows.{IfNext};
 ghost use Rattle.names.specs.declared.call_name.CallName.TheVariants as names;
 ghost use Rattle.tuples.specs.Checking.{holding};
 ghost use Rattle.tuples.specs.Parts.{shard_of as shard_number};
 ghost use Rattle.answer_flow.specs.Checking.{CatchUpGives, Continues, FlushGives, HeadsGive, LacksMemory, ReadGives, RowsGive};
-ghost use Rattle.answer_flow.specs.CheckViews.{IsFirst, IsOutOf, IsBehindOf, at_rest, catch_up as to_catch_up, checked, ended, holding_walk, name_of, read as to_read, view_of, view_out};
+ghost use Rattle.answer_flow.specs.CheckViews.{IsFirst, IsOutOf, IsReadyOf, at_rest, catch_up as to_catch_up, checked, ended, holding_walk, name_ready, read as to_read, view_of, view_out};
 ghost use Rattle.answer_flow.specs.declared.check_phase.Out.TheVariants as out_of;
 ghost use Rattle.catch_up.specs.CatchingUp.{Fits as FitsCatchUp};
 
-use crate::check_phase::{AskedCheck, CheckEnd, Phase, Question, Ready};
+use crate::check_phase::{AskedCheck, CheckEnd, Question, Ready};
 use crate::finding::{Found, find};
 use crate::walk::{Walk, has_user};
-use calls::{Boxed, Reply};
-use catch_up::{CatchUp, CatchUpCall, Progress};
+use calls::{Boxed, Progress, Reply};
+use catch_up::{CatchUp, CatchUpCall};
 use decisions::Heads;
 use shard::ReadReply;
 use std::alloc::{AllocError, Global};
 use tuples::{MAX_WALKED, Refusal, Shards, Tuple, User, Userset, shard_of};
 
-fn refused(refusal: Refusal) -> Phase
-    ensures { result ≡ Phase.Ended (CheckEnd.Refused refusal) }
+fn refused(refusal: Refusal) -> Progress<Ready, CheckEnd>
+    ensures { result ≡ Progress.Ended (CheckEnd.Refused refusal) }
 {
-    Phase::Ended(CheckEnd::Refused(refusal))
+    Progress::Ended(CheckEnd::Refused(refusal))
 }
 
-fn answered(place: u64, is_member: bool) -> Phase
-    ensures { result ≡ Phase.Ended (CheckEnd.Answered place is_member) }
+fn answered(place: u64, is_member: bool) -> Progress<Ready, CheckEnd>
+    ensures { result ≡ Progress.Ended (CheckEnd.Answered place is_member) }
 {
-    Phase::Ended(CheckEnd::Answered(place, is_member))
+    Progress::Ended(CheckEnd::Answered(place, is_member))
 }
 
 /// The shard that keeps the rows of a userset.
@@ -40,23 +41,23 @@ pub(crate) fn shard_to_ask(userset: &Userset, shards: Shards) -> u8
 }
 
 // The shard of the first that waits is brought up to the place. Where none waits the user is no member.
-fn bring_up(asked: &AskedCheck, place: u64, walk: Walk) -> Phase
+fn bring_up(asked: &AskedCheck, place: u64, walk: Walk) -> Progress<Ready, CheckEnd>
     ensures none { walk.waiting ≡ [] → view_of result ≡ ended (checked place false) }
     ensures more { walk.waiting ≢ [] → view_of result ≡ at_rest to_catch_up (holding_walk walk (Some place) None) }
-    ensures kept { IsBehindOf asked.now.shards asked.now.user result }
+    ensures kept { IfNext result (IsReadyOf asked.now.shards asked.now.user) }
 {
     let Some(first) = walk.first() else {
         return answered(place, false);
     };
     let shard = shard_to_ask(first, asked.shards);
     let catch_up = CatchUp::new(shard, place);
-    Phase::Ready(Ready::CatchUp(place, walk, catch_up))
+    Progress::Next(Ready::CatchUp(place, walk, catch_up))
 }
 
 /// It goes on, unless as many were walked as may be.
-pub(crate) fn go_on(asked: &AskedCheck, place: u64, walk: Walk) -> Phase
+pub(crate) fn go_on(asked: &AskedCheck, place: u64, walk: Walk) -> Progress<Ready, CheckEnd>
     ensures goes { Continues place (holding_walk walk (Some place) None) (view_of result) }
-    ensures kept { IsBehindOf asked.now.shards asked.now.user result }
+    ensures kept { IfNext result (IsReadyOf asked.now.shards asked.now.user) }
 {
     if walk.waits() && MAX_WALKED <= walk.walked() {
         return refused(Refusal::Full);
@@ -65,14 +66,18 @@ pub(crate) fn go_on(asked: &AskedCheck, place: u64, walk: Walk) -> Phase
 }
 
 /// The coordinator has told its heads.
-pub(crate) fn told(asked: &AskedCheck, walk: Walk, answer: Result<Heads, Refusal>) -> Phase
+pub(crate) fn told(
+    asked: &AskedCheck,
+    walk: Walk,
+    answer: Result<Heads, Refusal>,
+) -> Progress<Ready, CheckEnd>
     ensures gives { HeadsGive asked.now.freshness (view_out (out_of.Heads walk)) answer (view_of result) }
-    ensures kept { IsBehindOf asked.now.shards asked.now.user result }
+    ensures kept { IfNext result (IsReadyOf asked.now.shards asked.now.user) }
 {
     match answer {
         Ok(heads) => match find(asked.freshness, &heads) {
             Found::At(place) => go_on(asked, place, walk),
-            Found::Later => Phase::Ready(Ready::Flush(walk)),
+            Found::Later => Progress::Next(Ready::Flush(walk)),
             Found::Refused(refusal) => {
                 drop(walk);
                 refused(refusal)
@@ -86,13 +91,17 @@ pub(crate) fn told(asked: &AskedCheck, walk: Walk, answer: Result<Heads, Refusal
 }
 
 /// The coordinator was flushed, and is asked again.
-pub(crate) fn flushed(asked: &AskedCheck, walk: Walk, answer: Result<(), Refusal>) -> Phase
+pub(crate) fn flushed(
+    asked: &AskedCheck,
+    walk: Walk,
+    answer: Result<(), Refusal>,
+) -> Progress<Ready, CheckEnd>
     ensures gives { FlushGives (view_out (out_of.Flush walk)) answer (view_of result) }
-    ensures kept { IsBehindOf asked.now.shards asked.now.user result }
+    ensures kept { IfNext result (IsReadyOf asked.now.shards asked.now.user) }
 {
     let _asked = asked;
     match answer {
-        Ok(()) => Phase::Ready(Ready::Heads(walk)),
+        Ok(()) => Progress::Next(Ready::Heads(walk)),
         Err(refusal) => {
             drop(walk);
             refused(refusal)
@@ -113,14 +122,14 @@ fn question(alloc: Global, walk: &Walk, user: &User) -> Result<Option<Question>,
 }
 
 // The shard has learned so far, and is read.
-pub(crate) fn ask(asked: &AskedCheck, place: u64, walk: Walk) -> Phase
+pub(crate) fn ask(asked: &AskedCheck, place: u64, walk: Walk) -> Progress<Ready, CheckEnd>
     requires { walk.waiting ≢ [] }
     ensures gives { (view_of result ≡ at_rest to_read (holding_walk walk (Some place) None)) ⊎ LacksMemory (view_of result) }
-    ensures named { (name_of result ≡ Some names.Read) ⊎ LacksMemory (view_of result) }
-    ensures kept { IsBehindOf asked.now.shards asked.now.user result }
+    ensures named { IfNext result (λ ready. name_ready ready ≡ names.Read) }
+    ensures kept { IfNext result (IsReadyOf asked.now.shards asked.now.user) }
 {
     match question(asked.alloc, &walk, &asked.user) {
-        Ok(Some(question)) => Phase::Ready(Ready::Read(place, walk, question)),
+        Ok(Some(question)) => Progress::Next(Ready::Read(place, walk, question)),
         Ok(None) => answered(place, false),
         Err(_) => refused(Refusal::NoMemory),
     }
@@ -133,16 +142,18 @@ pub(crate) fn caught_up(
     walk: Walk,
     call: CatchUpCall,
     reply: Reply,
-) -> Phase
+) -> Progress<Ready, CheckEnd>
     requires kept { IsOutOf asked.now.shards (out_of.CatchUp place walk call) }
     requires fits { FitsCatchUp call.awaited reply }
     ensures gives { CatchUpGives (view_out (out_of.CatchUp place walk call)) call.awaited reply (view_of result) }
-    ensures kept { IsBehindOf asked.now.shards asked.now.user result }
+    ensures kept { IfNext result (IsReadyOf asked.now.shards asked.now.user) }
 {
     match call.give(reply) {
-        Progress::Next(catch_up) => Phase::Ready(Ready::CatchUp(place, walk, catch_up)),
-        Progress::There => ask(asked, place, walk),
-        Progress::Refused(refusal) => refused(refusal),
+        catch_up::Progress::Next(catch_up) => {
+            Progress::Next(Ready::CatchUp(place, walk, catch_up))
+        }
+        catch_up::Progress::There => ask(asked, place, walk),
+        catch_up::Progress::Refused(refusal) => refused(refusal),
     }
 }
 
@@ -157,9 +168,9 @@ fn is_found(walk: &Walk, rows: &[Tuple], user: &User) -> bool
 }
 
 // The rows of the first that waits.
-fn gather(asked: &AskedCheck, place: u64, walk: Walk, rows: Vec<Tuple>) -> Phase
+fn gather(asked: &AskedCheck, place: u64, walk: Walk, rows: Vec<Tuple>) -> Progress<Ready, CheckEnd>
     ensures goes { (y : _) → IsFirst walk y → RowsGive asked.now.user place (holding_walk walk (Some place) None) y rows.items (view_of result) }
-    ensures kept { IsBehindOf asked.now.shards asked.now.user result }
+    ensures kept { IfNext result (IsReadyOf asked.now.shards asked.now.user) }
 {
     if is_found(&walk, &rows, &asked.user) {
         return answered(place, true);
@@ -176,9 +187,9 @@ pub(crate) fn have_read(
     place: u64,
     walk: Walk,
     answer: Result<ReadReply, Refusal>,
-) -> Phase
+) -> Progress<Ready, CheckEnd>
     ensures gives { ReadGives asked.now.user (view_out (out_of.Read place walk)) answer (view_of result) }
-    ensures kept { IsBehindOf asked.now.shards asked.now.user result }
+    ensures kept { IfNext result (IsReadyOf asked.now.shards asked.now.user) }
 {
     match answer {
         Ok(ReadReply::Rows(rows)) => gather(asked, place, walk, rows),

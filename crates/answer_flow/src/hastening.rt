@@ -1,84 +1,90 @@
 // A shard that has most likely learned so far is read at once.
-ghost use Rattle.std.specs.Prelude.{◌≡◌, ◌≢◌, ◌⊎◌, ◌↔◌, IsTrue, Some};
+ghost use Rattle.std.specs.Prelude.{◌≡◌, ◌≢◌, ◌⊎◌};
+ghost use Rattle.calls.specs.Flows.{IfNext};
 ghost use Rattle.names.specs.declared.call_name.CallName.TheVariants as names;
-ghost use Rattle.answer_flow.specs.Checking.{HastensCheck, LacksMemory};
-ghost use Rattle.answer_flow.specs.CheckViews.{name_in as name_of_check};
+ghost use Rattle.answer_flow.specs.Checking.{HastensCheck};
+ghost use Rattle.answer_flow.specs.CheckViews.{IsAsked, IsReadyOf as IsCheckReadyOf, name_ready as name_of_check, seen_after, seen_of as seen_of_check, view_of, view_ready as view_of_check};
 ghost use Rattle.answer_flow.specs.Reading.{HastensRead};
-ghost use Rattle.answer_flow.specs.ReadViews.{name_in as name_of_read};
+ghost use Rattle.answer_flow.specs.ReadViews.{IsReadyOf as IsReadReadyOf, name_ready as name_of_read, seen_of as seen_of_read, view_ready as view_of_read};
 
-use crate::check_flow::{self, CheckFlow};
+use crate::check_flow::CheckFlow;
+use crate::check_phase::{self, AskedCheck, CheckDone, CheckEnd};
 use crate::checking::ask;
-use crate::read_flow::{self, ReadFlow};
-use crate::{check_phase, read_phase};
+use crate::read_flow::ReadFlow;
+use crate::read_phase;
+use calls::Progress;
 use names::CallName;
 
-// Whether a shard is asked next how far it has learned.
-fn check_asks_learned(phase: &Option<check_phase::Phase>) -> bool
-    ensures { IsTrue result ↔ (name_of_check phase.now ≡ Some names.Learned) }
+// Where a shard is to be brought up it is read.
+fn read_for_check(
+    asked: &AskedCheck,
+    ready: check_phase::Ready,
+) -> Progress<check_phase::Ready, CheckEnd>
+    requires { IsCheckReadyOf asked.now.shards asked.now.user ready }
+    ensures hastens { HastensCheck (view_of_check ready) (view_of result) }
+    ensures reads { name_of_check ready ≡ names.Learned → IfNext result (λ later. name_of_check later ≡ names.Read) }
+    ensures kept { IfNext result (IsCheckReadyOf asked.now.shards asked.now.user) }
 {
-    match phase {
-        Some(check_phase::Phase::Ready(ready)) => ready.name() == CallName::Learned,
-        _ => false,
+    match ready {
+        check_phase::Ready::CatchUp(place, walk, catch_up) => {
+            drop(catch_up);
+            ask(asked, place, walk)
+        }
+        other => Progress::Next(other),
     }
 }
 
-fn read_asks_learned(phase: &Option<read_phase::Phase>) -> bool
-    ensures { IsTrue result ↔ (name_of_read phase.now ≡ Some names.Learned) }
+fn read(ready: read_phase::Ready) -> read_phase::Ready
+    ensures hastens { HastensRead (view_of_read ready) (view_of_read result) }
+    ensures reads { name_of_read ready ≡ names.Learned → name_of_read result ≡ names.Read }
+    ensures kept { (shards : _) (sets : _) → IsReadReadyOf shards sets ready → IsReadReadyOf shards sets result }
 {
-    match phase {
-        Some(read_phase::Phase::Ready(ready)) => ready.name() == CallName::Learned,
-        _ => false,
+    match ready {
+        read_phase::Ready::CatchUp(gathered, set, catch_up) => {
+            drop(catch_up);
+            read_phase::Ready::Read(gathered, set)
+        }
+        other => other,
     }
 }
 
 impl CheckFlow {
     /// Where a shard is to be asked next how far it has learned, it is read at once: one that has not learned so far answers that too. Where memory is
-    /// refused the check ends with `NoMemory`. Where another call is next, one is out or it has ended, nothing is changed.
-    pub fn read_at_once(&mut self)
-        ensures asked { self.new ≡ record self.old { seen = self.new.seen; next_name = self.new.next_name } }
-        ensures hastens { HastensCheck self.old.seen self.new.seen }
-        ensures reads { self.old.next_name ≡ Some names.Learned → (self.new.next_name ≡ Some names.Read) ⊎ LacksMemory self.new.seen }
-        ensures others { self.old.next_name ≢ Some names.Learned → self.new ≡ self.old }
+    /// refused the check ends with `NoMemory`. Where another call is next, nothing is changed.
+    pub fn read_at_once(self) -> Progress<CheckFlow, CheckDone>
+        ensures asked { IsAsked self.shards self.fresh self.user result }
+        ensures hastens { HastensCheck (seen_of_check self) (seen_after result) }
+        ensures reads { self.next_name ≡ names.Learned → IfNext result (λ f. f.next_name ≡ names.Read) }
+        ensures others { self.next_name ≢ names.Learned → result ≡ Progress.Next self }
     {
-        if !check_asks_learned(&self.phase) {
-            return;
+        if self.ready.name() != CallName::Learned {
+            return Progress::Next(self);
         }
-        let Some(phase) = self.phase.take() else {
-            unreachable!();
-        };
-        match phase {
-            check_phase::Phase::Ready(check_phase::Ready::CatchUp(place, walk, catch_up)) => {
-                drop(catch_up);
-                let phase = ask(&self.asked, place, walk);
-                check_flow::put(&mut self.phase, phase);
-            }
-            other => check_flow::put(&mut self.phase, other),
+        let CheckFlow { asked, ready } = self;
+        match read_for_check(&asked, ready) {
+            Progress::Next(ready) => Progress::Next(CheckFlow { asked, ready }),
+            Progress::Ended(end) => Progress::Ended(CheckDone {
+                end,
+                user: asked.user,
+            }),
         }
     }
 }
 
 impl ReadFlow {
     /// Where a shard is to be asked next how far it has learned, it reads at once: one that has not learned so far answers that too. Where another call is
-    /// next, one is out or it has ended, nothing is changed.
-    pub fn read_at_once(&mut self)
-        ensures asked { self.new ≡ record self.old { seen = self.new.seen; next_name = self.new.next_name } }
-        ensures hastens { HastensRead self.old.seen self.new.seen }
-        ensures reads { self.old.next_name ≡ Some names.Learned → self.new.next_name ≡ Some names.Read }
-        ensures others { self.old.next_name ≢ Some names.Learned → self.new ≡ self.old }
+    /// next, nothing is changed.
+    pub fn read_at_once(self) -> ReadFlow
+        ensures asked { result ≡ record self { next = result.next; holds = result.holds; next_name = result.next_name } }
+        ensures hastens { HastensRead (seen_of_read self) (seen_of_read result) }
+        ensures reads { self.next_name ≡ names.Learned → result.next_name ≡ names.Read }
+        ensures others { self.next_name ≢ names.Learned → result ≡ self }
     {
-        if !read_asks_learned(&self.phase) {
-            return;
+        if self.ready.name() != CallName::Learned {
+            return self;
         }
-        let Some(phase) = self.phase.take() else {
-            unreachable!();
-        };
-        match phase {
-            read_phase::Phase::Ready(read_phase::Ready::CatchUp(gathered, set, catch_up)) => {
-                drop(catch_up);
-                let phase = read_phase::Phase::Ready(read_phase::Ready::Read(gathered, set));
-                read_flow::put(&mut self.phase, phase);
-            }
-            other => read_flow::put(&mut self.phase, other),
-        }
+        let ReadFlow { asked, ready } = self;
+        let ready = read(ready);
+        ReadFlow { asked, ready }
     }
 }

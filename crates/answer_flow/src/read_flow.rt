@@ -1,14 +1,14 @@
 // A read: one call a turn.
-ghost use Rattle.std.specs.Prelude.{◌≡◌, ◌≢◌, ◌≤◌, Some, None, MatchOption, is_some, option_map};
-ghost use Rattle.calls.specs.Names.{name_of as name_of_call};
+ghost use Rattle.std.specs.Prelude.{◌≡◌, ◌≤◌};
+ghost use Rattle.calls.specs.Flows.{IfNext};
 ghost use Rattle.names.specs.declared.call_name.CallName.TheVariants as names;
 ghost use Rattle.decisions.specs.Flows.{nothing_read};
-ghost use Rattle.answer_flow.specs.Reading.{Asks, Fits, GivesTo};
-ghost use Rattle.answer_flow.specs.ReadViews.{at_rest, ending_of, heads};
+ghost use Rattle.answer_flow.specs.ReadViews.{IsAsked, IsReadyOf, heads, seen_after, view_of};
+ghost use Rattle.answer_flow.specs.Running.{AsksRead, AwaitsRead, GivesRead};
 
-use crate::read_phase::{AskedRead, Phase, ReadEnd, Ready};
+use crate::read_phase::{AskedRead, Out, ReadDone, ReadEnd, Ready};
 use crate::read_turns::{give, next};
-use calls::{NodeCall, Reply};
+use calls::{Flow, NodeCall, Progress, Reply};
 use names::CallName;
 use std::alloc::Global;
 use std::marker::Model;
@@ -20,8 +20,7 @@ use tuples::{Freshness, Shards, Tupleset};
 #[must_use]
 pub struct ReadFlow {
     pub(crate) asked: AskedRead,
-    // taken out only within a call
-    pub(crate) phase: Option<Phase>,
+    pub(crate) ready: Ready,
 }
 
 impl Model for ReadFlow {
@@ -29,24 +28,55 @@ impl Model for ReadFlow {
 
     ghost Value = { ReadFlowValue };
 
-    ghost use Rattle.answer_flow.specs.ReadViews.{IsIn, name_in, view_in};
+    ghost use Rattle.answer_flow.specs.ReadViews.{IsReadyOf, holds_ready, name_ready, step_ready};
 
-    ghost view = { λ f. record { shards = f.asked.shards; fresh = f.asked.freshness; sets = f.asked.sets.items; seen = view_in f.phase; next_name = name_in f.phase } };
+    ghost view = { λ f. record { shards = f.asked.shards; fresh = f.asked.freshness; sets = f.asked.sets.items; next = step_ready f.ready; holds = holds_ready f.ready; next_name = name_ready f.ready } };
 
-    ghost invariant = { λ f. IsIn f.asked.shards f.asked.sets.items f.phase };
+    ghost invariant = { λ f. IsReadyOf f.asked.shards f.asked.sets.items f.ready };
 }
 
-// Puts a phase where one was taken out.
-pub(crate) fn put(place: &mut Option<Phase>, phase: Phase)
-    ensures { place.new ≡ Some phase }
+/// A read whose call is out: the reply has to come back here.
+#[derive(Drop)]
+#[must_use]
+pub struct ReadCall {
+    asked: AskedRead,
+    out: Out,
+}
+
+impl Model for ReadCall {
+    ghost use Rattle.answer_flow.specs.ReadViews.{ReadCallValue};
+
+    ghost Value = { ReadCallValue };
+
+    ghost use Rattle.answer_flow.specs.ReadViews.{IsOutOf, awaited_of, holds_out, step_out};
+
+    ghost view = { λ c. record { shards = c.asked.shards; fresh = c.asked.freshness; sets = c.asked.sets.items; step = step_out c.out; awaited = awaited_of c.out; holds = holds_out c.out } };
+
+    ghost invariant = { λ c. IsOutOf c.asked.shards c.asked.sets.items c.out };
+}
+
+/// What was made of it, with what it is asked.
+pub(crate) fn with_asked(
+    asked: AskedRead,
+    made: Progress<Ready, ReadEnd>,
+) -> Progress<ReadFlow, ReadDone>
+    requires { IfNext made (IsReadyOf asked.shards asked.sets.items) }
+    ensures asked { IsAsked asked.shards asked.freshness asked.sets.items result }
+    ensures seen { seen_after result ≡ view_of made }
 {
-    *place = Some(phase);
+    match made {
+        Progress::Next(ready) => Progress::Next(ReadFlow { asked, ready }),
+        Progress::Ended(end) => Progress::Ended(ReadDone {
+            end,
+            sets: asked.sets,
+        }),
+    }
 }
 
 impl ReadFlow {
     /// To read these tuplesets in a store of so many shards.
     pub fn new(alloc: Global, shards: Shards, freshness: Freshness, sets: Vec<Tupleset>) -> ReadFlow
-        ensures { result ≡ record { shards = shards; fresh = freshness; sets = sets.items; seen = at_rest heads nothing_read; next_name = Some names.Heads } }
+        ensures { result ≡ record { shards = shards; fresh = freshness; sets = sets.items; next = heads; holds = nothing_read; next_name = names.Heads } }
     {
         ReadFlow {
             asked: AskedRead {
@@ -55,96 +85,42 @@ impl ReadFlow {
                 freshness,
                 sets,
             },
-            phase: Some(Phase::Ready(Ready::Heads)),
+            ready: Ready::Heads,
         }
     }
+}
 
-    /// The name of its next call. None where it has ended, and while a call is out.
-    pub fn next_name(&self) -> Option<CallName>
-        ensures name { result ≡ self.now.next_name }
-        ensures ended { (end : _) → self.now.seen.ended ≡ Some end → result ≡ None }
-        ensures out { (awaited : _) → self.now.seen.awaited ≡ Some awaited → result ≡ None }
-        ensures some { self.now.seen.ended ≡ None → self.now.seen.awaited ≡ None → result ≢ None }
-    {
-        match &self.phase {
-            Some(Phase::Ready(ready)) => Some(ready.name()),
-            _ => None,
-        }
+/// Where memory is refused it ends with `NoMemory`.
+impl Flow for ReadFlow {
+    type Out = ReadCall;
+
+    type End = ReadDone;
+
+    ghost named = { λ f name. name ≡ f.next_name };
+
+    ghost is_of = { λ shards f. f.shards ≡ shards };
+
+    ghost is_of_out = { λ shards out. out.shards ≡ shards };
+
+    ghost asks = { AsksRead };
+
+    ghost awaits = { AwaitsRead };
+
+    ghost gives = { GivesRead };
+
+    fn next_name(&self) -> CallName {
+        self.ready.name()
     }
 
-    /// Its next call, which has to be made, and the reply given. None where it has ended, and while a call is out.
-    pub fn next_call(&mut self) -> Option<NodeCall>
-        ensures asked { self.new ≡ record self.old { seen = self.new.seen; next_name = None } }
-        ensures name { option_map name_of_call result ≡ self.old.next_name }
-        ensures call { MatchOption result (self.new ≡ self.old) (λ call. Asks self.old.shards self.old.sets self.old.seen call self.new.seen) }
-        ensures ended { (end : _) → self.old.seen.ended ≡ Some end → result ≡ None }
-        ensures out { (awaited : _) → self.old.seen.awaited ≡ Some awaited → result ≡ None }
-        ensures some { self.old.seen.ended ≡ None → self.old.seen.awaited ≡ None → result ≢ None }
-    {
-        let Some(phase) = self.phase.take() else {
-            unreachable!();
-        };
-        match phase {
-            Phase::Ready(ready) => {
-                let (call, out) = next(&self.asked, ready);
-                put(&mut self.phase, Phase::Out(out));
-                Some(call)
-            }
-            other => {
-                put(&mut self.phase, other);
-                None
-            }
-        }
+    fn next_call(self) -> (NodeCall, ReadCall) {
+        let ReadFlow { asked, ready } = self;
+        let (call, out) = next(&asked, ready);
+        (call, ReadCall { asked, out })
     }
 
-    /// What the reply to its call makes of it. Where memory is refused it ends with `NoMemory`.
-    pub fn give(&mut self, reply: Reply)
-        requires { MatchOption self.old.seen.awaited ⊥ (λ awaited. Fits self.old.sets self.old.seen awaited reply) }
-        ensures asked { self.new ≡ record self.old { seen = self.new.seen; next_name = self.new.next_name } }
-        ensures gives { MatchOption self.old.seen.awaited ⊥ (λ awaited. GivesTo self.old.shards self.old.fresh self.old.sets self.old.seen awaited reply self.new.seen) }
-        ensures rests { self.new.seen.awaited ≡ None }
-    {
-        let Some(phase) = self.phase.take() else {
-            unreachable!();
-        };
-        match phase {
-            Phase::Out(out) => {
-                let phase = give(&self.asked, out, reply);
-                put(&mut self.phase, phase);
-            }
-            _ => unreachable!(),
-        }
-    }
-
-    /// Whether it has ended.
-    pub fn has_ended(&self) -> bool
-        ensures { result ≡ is_some self.now.seen.ended }
-    {
-        match &self.phase {
-            Some(Phase::Ended(_)) => true,
-            _ => false,
-        }
-    }
-
-    /// How it ended, where it has, and the tuplesets that it was asked for.
-    pub fn into_parts(self) -> (Option<ReadEnd>, Vec<Tupleset>)
-        ensures end { option_map ending_of result.0 ≡ self.seen.ended }
-        ensures sets { result.1.items ≡ self.sets }
-    {
-        let ReadFlow { asked, phase } = self;
-        let sets = asked.sets;
-        match phase {
-            Some(phase) => (phase.into_end(), sets),
-            None => unreachable!(),
-        }
-    }
-
-    /// How it ended, where it has.
-    pub fn finish(self) -> Option<ReadEnd>
-        ensures { option_map ending_of result ≡ self.seen.ended }
-    {
-        let (end, sets) = self.into_parts();
-        drop(sets);
-        end
+    fn give(out: ReadCall, reply: Reply) -> Progress<ReadFlow, ReadDone> {
+        let ReadCall { asked, out } = out;
+        let made = give(&asked, out, reply);
+        with_asked(asked, made)
     }
 }

@@ -1,6 +1,6 @@
 // Where a read is between two of its calls, and while one is out.
-ghost use Rattle.std.specs.Prelude.{◌≡◌, ◌≤◌, option_map};
-ghost use Rattle.answer_flow.specs.ReadViews.{ending_of, name_ready, view_of};
+ghost use Rattle.std.specs.Prelude.{◌≡◌, ◌≤◌};
+ghost use Rattle.answer_flow.specs.ReadViews.{name_ready};
 
 use calls::Boxed;
 use catch_up::{CatchUp, CatchUpCall};
@@ -34,6 +34,14 @@ pub enum ReadEnd {
     Refused(Refusal),
 }
 
+/// A read that has ended.
+#[derive(Drop)]
+pub struct ReadDone {
+    pub end: ReadEnd,
+    /// Those that it was asked for.
+    pub sets: Vec<Tupleset>,
+}
+
 /// Its next call.
 #[derive(Drop)]
 pub(crate) enum Ready {
@@ -63,26 +71,4 @@ pub(crate) enum Out {
     Flush,
     CatchUp(Gathered, Boxed<Tupleset>, CatchUpCall),
     Read(Gathered),
-}
-
-#[derive(Drop)]
-pub(crate) enum Phase {
-    Ready(Ready),
-    Out(Out),
-    Ended(ReadEnd),
-}
-
-impl Phase {
-    /// How it ended, where it has.
-    pub(crate) fn into_end(self) -> Option<ReadEnd>
-        ensures { option_map ending_of result ≡ (view_of self).ended }
-    {
-        match self {
-            Phase::Ended(end) => Some(end),
-            other => {
-                drop(other);
-                None
-            }
-        }
-    }
 }

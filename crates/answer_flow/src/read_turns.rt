@@ -1,15 +1,18 @@
-// The turns of a read: the call of each phase, and what the reply makes of it.
+// The turns of a read: its next call, and what the reply makes of it.
 ghost use Rattle.std.specs.Prelude.{◌≡◌};
+ghost use Rattle.calls.specs.Flows.{IfNext};
 ghost use Rattle.calls.specs.Names.{name_of as name_of_call};
 ghost use Rattle.names.specs.declared.call_name.CallName.TheVariants as names;
 ghost use Rattle.answer_flow.specs.Reading.{Asks, Fits, GivesTo};
-ghost use Rattle.answer_flow.specs.ReadViews.{IsNext, IsOutOf, IsReadyOf, IsBehindOf, awaited_of, name_ready, view_of, view_out, view_ready};
+ghost use Rattle.answer_flow.specs.ReadViews.{IsNext, IsOutOf, IsReadyOf, awaited_of, name_ready, view_of, view_out, view_ready};
 ghost use Rattle.answer_flow.specs.declared.read_phase.Out.TheVariants as out_of;
 ghost use Rattle.answer_flow.specs.declared.read_phase.Ready.TheVariants as ready_of;
 
-use crate::read_phase::{AskedRead, Gathered, Out, Phase, Ready};
+use crate::read_phase::{AskedRead, Gathered, Out, ReadEnd, Ready};
 use crate::reading::{caught_up, flushed, have_read, shard_to_ask, told};
-use calls::{Boxed, CoordinatorCall, CoordinatorReply, NodeCall, Reply, ShardCall, ShardReply};
+use calls::{
+    Boxed, CoordinatorCall, CoordinatorReply, NodeCall, Progress, Reply, ShardCall, ShardReply,
+};
 use catch_up::CatchUp;
 use tuples::Tupleset;
 
@@ -40,7 +43,7 @@ fn call_of_read(asked: &AskedRead, gathered: Gathered, set: Boxed<Tupleset>) -> 
     (NodeCall::Shard(shard, call), Out::Read(gathered))
 }
 
-/// The call of a phase, and the phase while it is out.
+/// Its next call, and what stays here while that is out.
 pub(crate) fn next(asked: &AskedRead, ready: Ready) -> (NodeCall, Out)
     requires { IsReadyOf asked.now.shards asked.now.sets.items ready }
     ensures name { name_of_call result.0 ≡ name_ready ready }
@@ -58,11 +61,11 @@ pub(crate) fn next(asked: &AskedRead, ready: Ready) -> (NodeCall, Out)
 }
 
 /// What a reply makes of it.
-pub(crate) fn give(asked: &AskedRead, out: Out, reply: Reply) -> Phase
+pub(crate) fn give(asked: &AskedRead, out: Out, reply: Reply) -> Progress<Ready, ReadEnd>
     requires kept { IsOutOf asked.now.shards asked.now.sets.items out }
     requires fits { Fits asked.now.sets.items (view_out out) (awaited_of out) reply }
     ensures gives { GivesTo asked.now.shards asked.now.freshness asked.now.sets.items (view_out out) (awaited_of out) reply (view_of result) }
-    ensures kept { IsBehindOf asked.now.shards asked.now.sets.items result }
+    ensures kept { IfNext result (IsReadyOf asked.now.shards asked.now.sets.items) }
 {
     match out {
         Out::Heads => match reply {

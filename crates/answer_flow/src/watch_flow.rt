@@ -1,13 +1,12 @@
 // A watch: one call a turn.
-ghost use Rattle.std.specs.Prelude.{◌≡◌, ◌≢◌, Some, None, MatchOption, is_some, option_map};
-ghost use Rattle.calls.specs.Names.{name_of as name_of_call};
+ghost use Rattle.std.specs.Prelude.{◌≡◌};
 ghost use Rattle.decisions.specs.Flows.{no_heads};
-ghost use Rattle.answer_flow.specs.Watching.{Asks, Fits, GivesTo};
-ghost use Rattle.answer_flow.specs.WatchViews.{at_rest, ending_of, heads, next_name_of};
+ghost use Rattle.answer_flow.specs.Running.{AsksWatch, AwaitsWatch, GivesWatch};
+ghost use Rattle.answer_flow.specs.WatchViews.{heads, name_of};
 
-use crate::watch_phase::{Phase, Ready, WatchEnd};
+use crate::watch_phase::{AskedWatch, Out, Ready, WatchEnd};
 use crate::watching::{give, next};
-use calls::{NodeCall, Reply};
+use calls::{Flow, NodeCall, Progress, Reply};
 use names::CallName;
 use std::alloc::Global;
 use std::marker::Model;
@@ -17,12 +16,8 @@ use tuples::Namespace;
 #[derive(Drop)]
 #[must_use]
 pub struct WatchFlow {
-    alloc: Global,
-    cursor: u64,
-    limit: u64,
-    namespaces: Vec<Namespace>,
-    // taken out only within a call
-    phase: Option<Phase>,
+    asked: AskedWatch,
+    ready: Ready,
 }
 
 impl Model for WatchFlow {
@@ -30,108 +25,83 @@ impl Model for WatchFlow {
 
     ghost Value = { WatchFlowValue };
 
-    ghost use Rattle.answer_flow.specs.WatchViews.{IsIn, view_in};
+    ghost use Rattle.answer_flow.specs.WatchViews.{IsReadyOf, holds_ready, step_ready};
 
-    ghost view = { λ f. record { cursor = f.cursor; limit = f.limit; namespaces = f.namespaces.items; seen = view_in f.phase } };
+    ghost view = { λ f. record { cursor = f.asked.cursor; limit = f.asked.limit; namespaces = f.asked.namespaces.items; next = step_ready f.ready; holds = holds_ready f.ready } };
 
-    ghost invariant = { λ f. IsIn f.cursor f.phase };
+    ghost invariant = { λ f. IsReadyOf f.asked.cursor f.ready };
+}
+
+/// A watch whose call is out: the reply has to come back here.
+#[derive(Drop)]
+#[must_use]
+pub struct WatchCall {
+    asked: AskedWatch,
+    out: Out,
+}
+
+impl Model for WatchCall {
+    ghost use Rattle.answer_flow.specs.WatchViews.{WatchCallValue};
+
+    ghost Value = { WatchCallValue };
+
+    ghost use Rattle.answer_flow.specs.WatchViews.{IsOutOf, awaited_of, held_by};
+
+    ghost view = { λ c. record { cursor = c.asked.cursor; limit = c.asked.limit; namespaces = c.asked.namespaces.items; awaited = awaited_of c.out; holds = held_by c.out } };
+
+    ghost invariant = { λ c. IsOutOf c.asked.cursor c.out };
 }
 
 impl WatchFlow {
     /// The changes in these namespaces behind a place, of so many places at most.
     pub fn new(alloc: Global, cursor: u64, limit: u64, namespaces: Vec<Namespace>) -> WatchFlow
-        ensures { result ≡ record { cursor = cursor; limit = limit; namespaces = namespaces.items; seen = at_rest heads no_heads } }
+        ensures { result ≡ record { cursor = cursor; limit = limit; namespaces = namespaces.items; next = heads; holds = no_heads } }
     {
         WatchFlow {
-            alloc,
-            cursor,
-            limit,
-            namespaces,
-            phase: Some(Phase::Ready(Ready::Heads)),
+            asked: AskedWatch {
+                alloc,
+                cursor,
+                limit,
+                namespaces,
+            },
+            ready: Ready::Heads,
         }
     }
+}
 
-    /// The name of its next call. None where it has ended, and while a call is out.
-    pub fn next_name(&self) -> Option<CallName>
-        ensures { result ≡ next_name_of self.now.seen }
-    {
-        match &self.phase {
-            Some(Phase::Ready(Ready::Heads)) => Some(CallName::Heads),
-            Some(Phase::Ready(Ready::Flush)) => Some(CallName::Flush),
-            Some(Phase::Ready(Ready::Batch(_))) => Some(CallName::Batch),
-            _ => None,
-        }
+/// Where memory is refused it ends with `NoMemory`.
+impl Flow for WatchFlow {
+    type Out = WatchCall;
+
+    type End = WatchEnd;
+
+    ghost named = { λ f name. name ≡ name_of f.next };
+
+    ghost is_of = { λ shards f. Unit {0} };
+
+    ghost is_of_out = { λ shards out. Unit {0} };
+
+    ghost asks = { AsksWatch };
+
+    ghost awaits = { AwaitsWatch };
+
+    ghost gives = { GivesWatch };
+
+    fn next_name(&self) -> CallName {
+        self.ready.name()
     }
 
-    /// Its next call, which has to be made, and the reply given. None where it has ended, and while a call is out.
-    pub fn next_call(&mut self) -> Option<NodeCall>
-        ensures asked { self.new ≡ record self.old { seen = self.new.seen } }
-        ensures name { option_map name_of_call result ≡ next_name_of self.old.seen }
-        ensures call { MatchOption result (self.new ≡ self.old) (λ call. Asks self.old.cursor self.old.limit self.old.seen call self.new.seen) }
-        ensures ended { (end : _) → self.old.seen.ended ≡ Some end → result ≡ None }
-        ensures out { (awaited : _) → self.old.seen.awaited ≡ Some awaited → result ≡ None }
-        ensures some { self.old.seen.ended ≡ None → self.old.seen.awaited ≡ None → result ≢ None }
-    {
-        let Some(phase) = self.phase.take() else {
-            unreachable!();
-        };
-        match phase {
-            Phase::Ready(ready) => {
-                let (call, out) = next(self.cursor, self.limit, ready);
-                self.phase = Some(Phase::Out(out));
-                Some(call)
-            }
-            other => {
-                self.phase = Some(other);
-                None
-            }
-        }
+    fn next_call(self) -> (NodeCall, WatchCall) {
+        let WatchFlow { asked, ready } = self;
+        let (call, out) = next(&asked, ready);
+        (call, WatchCall { asked, out })
     }
 
-    /// What the reply to its call makes of it.
-    pub fn give(&mut self, reply: Reply)
-        requires { MatchOption self.old.seen.awaited ⊥ (λ awaited. Fits awaited reply) }
-        ensures asked { self.new ≡ record self.old { seen = self.new.seen } }
-        ensures gives { MatchOption self.old.seen.awaited ⊥ (λ awaited. GivesTo self.old.cursor self.old.limit self.old.namespaces self.old.seen awaited reply self.new.seen) }
-        ensures rests { self.new.seen.awaited ≡ None }
-    {
-        let Some(phase) = self.phase.take() else {
-            unreachable!();
-        };
-        match phase {
-            Phase::Out(out) => {
-                let namespaces = &self.namespaces;
-                let phase = give(self.alloc, self.cursor, self.limit, namespaces, out, reply);
-                self.phase = Some(phase);
-            }
-            _ => unreachable!(),
-        }
-    }
-
-    /// Whether it has ended.
-    pub fn has_ended(&self) -> bool
-        ensures { result ≡ is_some self.now.seen.ended }
-    {
-        match &self.phase {
-            Some(Phase::Ended(_)) => true,
-            _ => false,
-        }
-    }
-
-    /// How it ended, where it has.
-    pub fn finish(self) -> Option<WatchEnd>
-        ensures { option_map ending_of result ≡ self.seen.ended }
-    {
-        let WatchFlow {
-            alloc: _,
-            cursor: _,
-            limit: _,
-            namespaces: _,
-            phase,
-        } = self;
-        match phase {
-            Some(Phase::Ended(end)) => Some(end),
-            _ => None,
+    fn give(out: WatchCall, reply: Reply) -> Progress<WatchFlow, WatchEnd> {
+        let WatchCall { asked, out } = out;
+        match give(&asked, out, reply) {
+            Progress::Next(ready) => Progress::Next(WatchFlow { asked, ready }),
+            Progress::Ended(end) => Progress::Ended(end),
         }
     }
 }

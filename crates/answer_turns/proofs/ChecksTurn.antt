@@ -20,7 +20,7 @@ use Rattle.calls.specs.declared.reply.CoordinatorReply.TheVariants as told
 use Rattle.calls.specs.declared.reply.ShardReply.TheVariants as told_by
 use Rattle.answer_flow.specs.Finding as finding
 use Rattle.answer_flow.specs.Checking.{AsksFor, CatchUpGives, CatchesUp, Continues, FlushGives, GivesTo, HeadsGive, ProgressGives, ReadGives, RowsGive}
-use Rattle.answer_flow.specs.CheckViews.{CheckStep, CheckView, at_rest, catch_up, catch_up_call, checked, ended, flush, flush_call, heads, heads_call, read, read_call, refused, waiting}
+use Rattle.answer_flow.specs.CheckViews.{CheckStep, CheckView, at_rest, catch_up, catch_up_call, checked, ended, flush, flush_call, heads, heads_call, read, read_call, refused, seen_of, waiting}
 use Rattle.stores.specs.Causes.{IsCause}
 use Rattle.stores.specs.Flows.{checking, place_of, to_check}
 use Rattle.stores.specs.Held.{IsRightCheck}
@@ -335,5 +335,5 @@ pub checks_turn : {D : Type 0} (state : D → State) (honest : D → Type 0) (mo
     (counts_now : (d : D) (t : ℕ) (c : List ℕ) → honest d → t ≤ moment d → left (state d) c → left_since d t c) (only_now : (d : D) (c : List ℕ) → honest d → left_since d (moment d) c → left (state d) c)
     (store shards : ℕ) → ChecksTurn state honest moment left_since store shards
 checks_turn state honest moment left_since counts_now only_now store shards old new slot x v after t =
-    by_step state honest moment left_since counts_now only_now store shards old new slot v.fresh x v.user v.seen.holds v.seen.next t.call t.out t.reply after t.was t.is v.seen refl
-    (subst (λ (n : ℕ). AsksFor v.seen.next n v.user v.seen t.call t.out) t.of_store t.asks.asks) t.gives t.fits t.called_is t.answers t.turns
+    by_step state honest moment left_since counts_now only_now store shards old new slot v.fresh x v.user v.holds v.next t.call t.out t.reply after t.was t.is (seen_of v) refl
+    (subst (λ (n : ℕ). AsksFor v.next n v.user (seen_of v) t.call t.out) t.of_store t.asks.asks) t.gives t.fits t.called_is t.answers t.turns

@@ -15,7 +15,7 @@ use Rattle.calls.specs.declared.reply.CoordinatorReply.TheVariants as told
 use Rattle.calls.specs.declared.reply.ShardReply.TheVariants as told_by
 use Rattle.answer_flow.specs.Finding as finding
 use Rattle.answer_flow.specs.Reading.{AsksFor, CatchUpGives, CatchesUp, Continues, Finishes, FlushGives, HeadsGive, Merges, ProgressGives, ReadGives, RowsGive}
-use Rattle.answer_flow.specs.ReadViews.{ReadStep, catch_up, catch_up_call, flush, flush_call, read, read_call, refused, shard_for}
+use Rattle.answer_flow.specs.ReadViews.{ReadStep, catch_up, catch_up_call, flush, flush_call, read, read_call, refused, seen_of, shard_for}
 use Rattle.stores.specs.Causes.{Needs}
 use Rattle.stores.specs.Flows.{to_read}
 use Rattle.stores.specs.Held.{IsRightRead}
@@ -367,7 +367,7 @@ pub reads_turn : {D : Type 0} (state : D → State) (honest : D → Type 0) (mom
     (counts_now : (d : D) (t : ℕ) (c : List ℕ) → honest d → t ≤ moment d → left (state d) c → left_since d t c) (only_now : (d : D) (c : List ℕ) → honest d → left_since d (moment d) c → left (state d) c)
     (store shards : ℕ) → ReadsTurn state honest moment left_since store shards
 reads_turn state honest moment left_since counts_now only_now store shards old new slot v after t =
-    by_step state honest moment left_since counts_now only_now store shards old new slot v.fresh v.sets v.seen.holds v.seen.next t.call t.out t.reply after t.was t.is v.seen refl
-    (subst (λ (n : ℕ). AsksFor v.seen.next n v.sets v.seen t.call t.out) t.of_store t.asks.asks)
+    by_step state honest moment left_since counts_now only_now store shards old new slot v.fresh v.sets v.holds v.next t.call t.out t.reply after t.was t.is (seen_of v) refl
+    (subst (λ (n : ℕ). AsksFor v.next n v.sets (seen_of v) t.call t.out) t.of_store t.asks.asks)
     (subst (λ (n : ℕ). MatchOption t.out.awaited ⊥ (λ awaited. GivesTo n v.fresh v.sets t.out awaited t.reply after)) t.of_store t.gives)
     t.fits t.called_is t.answers t.turns

@@ -19,7 +19,7 @@ use Rattle.answer_turns.specs.ReadTurns.{ReadTurns, read_of}
 
 -- a read of these tuplesets at the latest place, in a store of one shard, before its first call, and with that call out
 abbrev fresh : List Tupleset → ReadFlowValue
-fresh sets = record { shards = 1; fresh = latest; sets = sets; seen = at_rest heads nothing_read; next_name = Some names.Heads }
+fresh sets = record { shards = 1; fresh = latest; sets = sets; next = heads; holds = nothing_read; next_name = names.Heads }
 
 abbrev asking : ReadView
 asking = waiting heads heads_call nothing_read

@@ -10,7 +10,7 @@ use Rattle.calls.specs.declared.call.CoordinatorCall.{CoordinatorCall}
 use Rattle.calls.specs.declared.call.CoordinatorCall.TheVariants as calls
 use Rattle.calls.specs.declared.reply.CoordinatorReply.TheVariants as told
 use Rattle.answer_flow.specs.Watching.{AsksFor, BatchGives, FlushGives, GivesTo, HeadsGive, heartbeat}
-use Rattle.answer_flow.specs.WatchViews.{WatchCall, WatchView, at_rest, batch, ended, flush, heads, listed, refused, waiting, with_heads}
+use Rattle.answer_flow.specs.WatchViews.{WatchStep, WatchView, at_rest, batch, ended, flush, heads, listed, refused, seen_of, waiting, with_heads}
 use Rattle.stores.specs.Flows.{to_watch, watching}
 use Rattle.stores.specs.Held.{AreHeldHeads}
 use Rattle.stores.specs.Replies.{listed as listed_answer}
@@ -44,7 +44,7 @@ module _ {D : Type 0} (state : D → State) (honest : D → Type 0) (moment : D 
   held now standing r flow = held_now state honest moment left_since store shards old new slot asked refl (watching h) now standing r flow
 
   -- it goes on with what is right
-  goes : (k : HeadsHeld) (call : WatchCall) → ComesRight state honest moment left_since store shards old new slot asked refl (watching h) (watching k) → Leads (at_rest call k)
+  goes : (k : HeadsHeld) (call : WatchStep) → ComesRight state honest moment left_since store shards old new slot asked refl (watching h) (watching k) → Leads (at_rest call k)
   goes k call right = goes_to state honest moment left_since store shards old new slot asked refl (watching h) (watching k) right
 
   refuses : (e : Refusal) → RefusedQuietly state honest moment left_since store shards old new slot asked refl (watching h) e → Leads (ended (refused e))
@@ -161,14 +161,14 @@ module _ {D : Type 0} (state : D → State) (honest : D → Type 0) (moment : D 
   batch_replied v has low was is reply after c so gives = absurd gives
 
   -- whichever call it makes
-  by_call : (next : WatchCall) (call : CoordinatorCall) (reply : Reply) (after : WatchView) (was is : NodeView D) → AsksFor cursor limit (at_rest next h) (of_coordinator call) → ((n : ℕ) → MayBeMade n (of_coordinator call))
+  by_call : (next : WatchStep) (call : CoordinatorCall) (reply : Reply) (after : WatchView) (was is : NodeView D) → AsksFor cursor limit (at_rest next h) (of_coordinator call) → ((n : ℕ) → MayBeMade n (of_coordinator call))
       → IsCalled state honest moment left_since store shards coordinator was is old new → Answered state honest moment left_since was (of_coordinator call) reply is → GivesTo cursor limit names (waiting next h) next reply after → Leads after
-  by_call next calls.Heads reply after was is asks owed c so gives = heads_replied was is reply after c so (subst (λ (x : WatchCall). GivesTo cursor limit names (waiting x h) x reply after) asks gives)
-  by_call next calls.Flush reply after was is asks owed c so gives = flush_replied was is reply after c so (subst (λ (x : WatchCall). GivesTo cursor limit names (waiting x h) x reply after) asks gives)
+  by_call next calls.Heads reply after was is asks owed c so gives = heads_replied was is reply after c so (subst (λ (x : WatchStep). GivesTo cursor limit names (waiting x h) x reply after) asks gives)
+  by_call next calls.Flush reply after was is asks owed c so gives = flush_replied was is reply after c so (subst (λ (x : WatchStep). GivesTo cursor limit names (waiting x h) x reply after) asks gives)
   by_call next (calls.Batch from to) reply after was is (asks, (v, has, from_is, to_is)) owed c so gives =
       batch_replied v has (subst (λ (n : ℕ). n ≤ heartbeat cursor limit v) from_is (subst (λ (n : ℕ). from ≤ n) to_is (owed shards))) was is reply after c
       (subst (λ (n : ℕ). Answered state honest moment left_since was (of_coordinator (calls.Batch n (heartbeat cursor limit v))) reply is) from_is (subst (λ (n : ℕ). Answered state honest moment left_since was (of_coordinator (calls.Batch from n)) reply is) to_is so))
-      (subst (λ (x : WatchCall). GivesTo cursor limit names (waiting x h) x reply after) asks gives)
+      (subst (λ (x : WatchStep). GivesTo cursor limit names (waiting x h) x reply after) asks gives)
   by_call next call reply after was is asks owed c so gives = absurd asks
 
   from_view : (v out : WatchView) → v.holds ≡ h → (call : NodeCall) (reply : Reply) (after : WatchView) (was is : NodeView D) → AsksFor cursor limit v call → out ≡ waiting v.next v.holds → ((n : ℕ) → MayBeMade n call)
@@ -189,4 +189,4 @@ pub watches_turn : {D : Type 0} (state : D → State) (honest : D → Type 0) (m
     (counts_now : (d : D) (t : ℕ) (c : List ℕ) → honest d → t ≤ moment d → left (state d) c → left_since d t c) (only_now : (d : D) (c : List ℕ) → honest d → left_since d (moment d) c → left (state d) c)
     (store shards : ℕ) → WatchesTurn state honest moment left_since store shards
 watches_turn state honest moment left_since counts_now only_now store shards old new slot v after t =
-    from_view state honest moment left_since counts_now only_now store shards old new slot v.cursor v.limit v.namespaces t.asked.2 v.seen.holds v.seen t.out refl t.call t.reply after t.was t.is t.asks.asks t.asks.out t.asks.owed t.called_is t.answers t.gives t.turns
+    from_view state honest moment left_since counts_now only_now store shards old new slot v.cursor v.limit v.namespaces t.asked.2 v.holds (seen_of v) t.out refl t.call t.reply after t.was t.is t.asks.asks t.asks.out t.asks.owed t.called_is t.answers t.gives t.turns

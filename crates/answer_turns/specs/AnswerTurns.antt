@@ -42,14 +42,14 @@ module _ {D : Type 0} (state : D → State) (honest : D → Type 0) (moment : D 
     pub asked : IsAsked shards (asked_of v)
     pub call : NodeCall
     pub out : WatchView
-    pub asks : watching_by.Asks v.cursor v.limit v.seen call out
+    pub asks : watching_by.Asks v.cursor v.limit (views.seen_of v) call out
     pub was : NodeView D
     pub is : NodeView D
     pub called_is : IsCalled state honest moment left_since store shards (called call) was is old new
     pub reply : Reply
     pub answers : asking.Answered state honest moment left_since was call reply is
     pub gives : MatchOption out.awaited ⊥ (λ awaited. watching_by.GivesTo v.cursor v.limit v.namespaces out awaited reply after)
-    pub turns : SlotTurns slot (shown_answer (asked_of v) (watching v.seen.holds)) (watch_in_slot (asked_of v) after after.ended) old new
+    pub turns : SlotTurns slot (shown_answer (asked_of v) (watching v.holds)) (watch_in_slot (asked_of v) after after.ended) old new
 
   -- such a turn keeps the promise of a step of a run: it goes on with heads that are right, lists the changes after its cursor, or ends with a refusal that
   -- has its cause

@@ -42,7 +42,7 @@ module _ {D : Type 0} (state : D → State) (honest : D → Type 0) (moment : D 
     pub asked : IsAsked shards (check_of x v)
     pub call : NodeCall
     pub out : CheckView
-    pub asks : checking_by.Asks v.shards v.user v.seen call out
+    pub asks : checking_by.Asks v.shards v.user (views.seen_of v) call out
     pub fits : FitsItsTypes call
     pub was : NodeView D
     pub is : NodeView D
@@ -50,7 +50,7 @@ module _ {D : Type 0} (state : D → State) (honest : D → Type 0) (moment : D 
     pub reply : Reply
     pub answers : asking.Answered state honest moment left_since was call reply is
     pub gives : MatchOption out.awaited ⊥ (λ awaited. checking_by.GivesTo v.fresh v.user out awaited reply after)
-    pub turns : SlotTurns slot (shown_answer (check_of x v) (checking v.seen.holds)) (check_in_slot (check_of x v) after after.ended) old new
+    pub turns : SlotTurns slot (shown_answer (check_of x v) (checking v.holds)) (check_in_slot (check_of x v) after after.ended) old new
 
   -- Such a turn keeps the promise of a step of a run: it goes on with a place and usersets that are right, answers whether the user is a member at the place,
   -- or ends with a refusal that has its cause.

@@ -41,7 +41,7 @@ module _ {D : Type 0} (state : D → State) (honest : D → Type 0) (moment : D 
     pub asked : IsAsked shards (read_of v)
     pub call : NodeCall
     pub out : ReadView
-    pub asks : reading_by.Asks v.shards v.sets v.seen call out
+    pub asks : reading_by.Asks v.shards v.sets (views.seen_of v) call out
     pub fits : FitsItsTypes call
     pub was : NodeView D
     pub is : NodeView D
@@ -49,7 +49,7 @@ module _ {D : Type 0} (state : D → State) (honest : D → Type 0) (moment : D 
     pub reply : Reply
     pub answers : asking.Answered state honest moment left_since was call reply is
     pub gives : MatchOption out.awaited ⊥ (λ awaited. reading_by.GivesTo v.shards v.fresh v.sets out awaited reply after)
-    pub turns : SlotTurns slot (shown_answer (read_of v) (reading v.seen.holds)) (read_in_slot (read_of v) after after.ended) old new
+    pub turns : SlotTurns slot (shown_answer (read_of v) (reading v.holds)) (read_in_slot (read_of v) after after.ended) old new
 
   -- Such a turn keeps the promise of a step of a run: it goes on with a place and rows that are right, answers what its tuplesets select at the place, or
   -- ends with a refusal that has its cause.

@@ -14,7 +14,7 @@ use Rattle.calling.specs.declared.kind.Kind.{Kind}
 abbrev pub told_number : Data → Option ℕ
 told_number d = option_and_then as_u64 (option_and_then as_number (get (codes "error") d))
 
--- the refusal has this number; there is none where no refusal has it
+-- the refusal has this number; there is none if no refusal has it
 abbrev pub IsRefusal : Option ℕ → Option Refusal → Type 0
 IsRefusal told (Some r) = told ≡ Some (number_of r)
 IsRefusal told None = (r : Refusal) → told ≡ Some (number_of r) → ⊥

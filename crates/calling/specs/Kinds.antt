@@ -8,7 +8,7 @@ use Rattle.serde_json.specs.Read.{read}
 use Rattle.calling.specs.declared.kind.Kind.{Kind}
 use Rattle.calling.specs.declared.kind.Kind.TheVariants.{Check, Other, Read, Watch, Write}
 
--- the request with this name; another one where no request has it
+-- the request with this name; another one if no request has it
 abbrev pub name_kind : List ℕ → Kind
 name_kind name =
     cond (bytes_eq name (codes "write")) Write

@@ -15,7 +15,7 @@ abbrev pub times : ℕ → List ℕ → List ℕ
 times zero line = []
 times (suc n) line = times n line ++ (line ++ 10 ∷ [])
 
--- Behind it nothing was done, and what was in the way passes by itself. The usersets of a check are as many again.
+-- After it nothing was done, and what was in the way passes by itself. The usersets of a check are as many again.
 abbrev pub IsSentAgain : Kind → Refusal → Type 0
 IsSentAgain kind r = IsOneOf r (Busy ∷ Aborted ∷ NoMemory ∷ []) ⊎ ((r ≡ Full) × (kind ≡ Check → ⊥))
 
@@ -23,20 +23,20 @@ IsSentAgain kind r = IsOneOf r (Busy ∷ Aborted ∷ NoMemory ∷ []) ⊎ ((r �
 abbrev pub IsAskedAgain : Kind → Option Refusal → Type 0
 IsAskedAgain kind refusal = MatchOption refusal ⊥ (IsSentAgain kind)
 
--- the bytes of an answer, and of some, one behind the other
+-- the bytes of an answer, and of some, one after the other
 abbrev pub answer_bytes : Answered → List ℕ
 answer_bytes a = string_bytes a.line ++ 10 ∷ []
 
 abbrev pub answers_bytes : List Answered → List ℕ
 answers_bytes = flat_map answer_bytes
 
--- an answer behind which the request may be sent again
+-- an answer after which the request may be sent again
 pub record IsPassing (kind : Kind) (a : Answered) : Type 0 where
   pub answer : IsAnswer kind a
   pub again : IsAskedAgain kind a.refusal
 
--- The line was sent once, and once more behind each earlier answer, of which there are at most so many: each was one behind which it may be sent again. These
--- answers were read, and then this last one: there were as many as there may be, or it is none behind which it may be sent again. Nothing else was read or sent.
+-- The line was sent once, and once more after each earlier answer, of which there are at most so many: each was one after which it may be sent again. These
+-- answers were read, and then this last one: there were as many as there may be, or it is none after which it may be sent again. Nothing else was read or sent.
 pub record SendsAgain (most : ℕ) (kind : Kind) (line : List ℕ) (in_before in_after out_before out_after : Option (List ℕ)) (last : Answered) : Type 0 where
   pub earlier : List Answered
   pub few : length earlier ≤ most
@@ -46,7 +46,7 @@ pub record SendsAgain (most : ℕ) (kind : Kind) (line : List ℕ) (in_before in
   pub read : Consumes in_before in_after (answers_bytes earlier ++ answer_bytes last)
   pub sent : Appends out_before out_after (times (suc (length earlier)) line)
 
--- The line was sent once behind each earlier answer, as it may be, and then a beginning of it once more at most; no answer to that was read.
+-- The line was sent once after each earlier answer, as it may be, and then a beginning of it once more at most; no answer to that was read.
 pub record StopsAsking (most : ℕ) (kind : Kind) (line : List ℕ) (in_before out_before out_after : Option (List ℕ)) : Type 0 where
   pub earlier : List Answered
   pub few : length earlier ≤ most

@@ -44,7 +44,7 @@ pub fn is_sent_again(kind: Kind, refusal: Refusal) -> bool
     }
 }
 
-/// What is wrong, and what whoever sits at a terminal does about it, as docs/API.md has it.
+/// What is wrong, and what a person at a terminal does about it, as docs/API.md has it.
 pub fn advice(kind: Kind, refusal: Refusal) -> &'static str {
     match refusal {
         Refusal::BadRequest => "invalid request, or a write without a change: fix the request",

@@ -22,8 +22,8 @@ const PAUSE_MILLISECONDS: u64 = 50;
 
 const LONGEST_MILLISECONDS: u64 = 2000;
 
-/// Sends the request, and again while its refusal is one of those behind which it may be, up to so many times more, after a pause that grows. The last
-/// answer. Where it ends with an `Err`, too, it was sent again behind such answers alone.
+/// Sends the request, and again while its refusal is one of those after which it may be, up to so many times more, after a pause that grows. The last
+/// answer. If it ends with an `Err`, too, it was sent again after such answers alone.
 pub fn ask_again<C: Clock, I: BufRead, O: Write>(
     clock: &C,
     alloc: Global,

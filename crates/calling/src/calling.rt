@@ -22,10 +22,10 @@ const FAILED: u8 = 1;
 // The status of a command line that can't be carried out.
 const USAGE: u8 = 2;
 
-// How long a watch waits where nothing was new.
+// How long a watch waits if nothing was new.
 const QUIET_MILLISECONDS: u64 = 250;
 
-/// Sends the request of the settings, or each line of standard input, to the server. The status: 0 where each was answered and none refused, 2 where `--follow`
+/// Sends the request of the settings, or each line of standard input, to the server. The status: 0 if each was answered and none refused, 2 if `--follow`
 /// stands before a request that is no watch, and else 1, once standard error is told of each refusal and what to do about it, of each line that is no request,
 /// or why the call ended.
 pub fn call<R: Net<Stream = TcpStream>>(net: &R, rt: &HostRuntime, settings: &CallSettings) -> u8 {
@@ -252,7 +252,7 @@ fn show(
     }
 }
 
-// Tells what of the request was refused, where that is seen in it, and else what is done about it.
+// Tells what of the request was refused, if that is seen in it, and else what is done about it.
 fn tell_refusal(rt: &HostRuntime, place: Place, request: &RequestLine, refusal: Refusal) {
     let _ = match cause_in(rt.alloc(), request.line.as_str(), refusal) {
         Ok(Some(cause)) => eprintln!(rt; "zanstore: call: {place}{refusal}: {cause}"),
@@ -263,7 +263,7 @@ fn tell_refusal(rt: &HostRuntime, place: Place, request: &RequestLine, refusal: 
     };
 }
 
-// Goes on behind a watch from each heartbeat, until it is refused.
+// Goes on after a watch from each heartbeat, until it is refused.
 fn follow(
     rt: &HostRuntime,
     session: &mut Session<'_>,
@@ -281,7 +281,7 @@ fn follow(
     Ok(true)
 }
 
-// The next heartbeat. An answer is printed where that has moved.
+// The next heartbeat. An answer is printed if that has moved.
 fn follow_once(
     rt: &HostRuntime,
     session: &mut Session<'_>,

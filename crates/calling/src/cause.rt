@@ -8,7 +8,7 @@ use tuples::{MAX_ASKED, MAX_CHANGES, MAX_CONDITIONS, MAX_LINE, Namespace, Tuple,
 const SPLIT: &str = "send several requests; a write that is split is no longer one write";
 
 /// What of the request line the server refused so, and why: the first text that is none, a list or line that is too long, or a tuple that stands twice. None
-/// where that is not seen in it.
+/// if that is not seen in it.
 pub(crate) fn cause_in(
     alloc: Global,
     line: &str,

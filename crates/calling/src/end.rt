@@ -14,7 +14,7 @@ pub(crate) struct End {
 }
 
 impl End {
-    /// The call ended where no request was being asked for.
+    /// The call ended while no request was being asked for.
     pub(crate) fn at(place: Place, fault: Fault) -> End {
         End {
             place,

@@ -29,7 +29,7 @@ pub enum Fault {
 }
 
 impl Fault {
-    /// What the error of a connection means: where a read or a write would have waited longer than it may, it is late.
+    /// What the error of a connection means: if a read or a write would have waited longer than it may, it is late.
     pub(crate) fn of_connection(error: io::Error) -> Fault {
         if error.kind() == ErrorKind::WouldBlock {
             Fault::Late
@@ -38,7 +38,7 @@ impl Fault {
         }
     }
 
-    /// What the error of a connection that was not made means, where it was waited for so many seconds at most.
+    /// What the error of a connection that was not made means, if it was waited for so many seconds at most.
     pub(crate) fn of_connecting(error: io::Error, timeout: Option<u64>) -> Fault {
         if timeout.is_some() && error.kind() == ErrorKind::TimedOut {
             Fault::Unreached

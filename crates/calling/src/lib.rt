@@ -2,8 +2,8 @@
 //!
 //! Keeps: a request is sent as its line and a line feed, and again only so often as was asked for; what a refusal says is told by its number alone. An answer has
 //! what an answer to that request has.
-//! Never: sends a write again whose first sending may stand: not behind `12 Unsure`, and not behind a connection that ended; nor a check that is `15 Full`.
-//! Callers rely on: the status, 0 where each request was answered and none refused, and 1 else, once standard error is told.
+//! Never: sends a write again whose first sending may stand: not after `12 Unsure`, and not after a connection that ended; nor a check that is `15 Full`.
+//! Callers rely on: the status, 0 if each request was answered and none refused, and 1 else, once standard error is told.
 //!
 //! Only tested: what is printed, which part of a text that is no tuple is told, how long is waited for a connection, for an answer and before a request is sent
 //! again, and that a watch goes on.

@@ -9,10 +9,10 @@ use std::time::{Clock, Instant};
 /// A read of the connection gives up after so long, and is made again.
 pub(crate) const TICK_MILLISECONDS: u64 = 250;
 
-/// Whoever waits is told after so many seconds.
+/// Who waits is told after so many seconds.
 pub(crate) const TOLD_SECONDS: u64 = 3;
 
-/// Reads as its input does, and again where that found nothing in time, until an answer was waited for as long as it may be: then the read fails with
+/// Reads as its input does, and again if that found nothing in time, until an answer was waited for as long as it may be: then the read fails with
 /// `WouldBlock`. Tells once an answer that it still waits.
 #[derive(Drop)]
 pub struct Waiting<'a, R, C> {
@@ -21,7 +21,7 @@ pub struct Waiting<'a, R, C> {
     pub address: &'a str,
     /// For how many seconds at most an answer is waited for. None: without a limit.
     pub timeout: Option<u64>,
-    /// Since when an answer is waited for. None where the last that was read ended one.
+    /// Since when an answer is waited for. None if the last that was read ended one.
     pub since: Option<Instant>,
     /// Whether it was told of this answer that it is waited for.
     pub is_told: bool,
@@ -49,7 +49,7 @@ impl<R, C: Clock + Eprint> Waiting<'_, R, C> {
         false
     }
 
-    // For how many seconds the answer was waited for. It begins with the first read, and does not begin where the clock can't be read.
+    // For how many seconds the answer was waited for. It begins with the first read, and does not begin if the clock can't be read.
     fn waited(&mut self) -> u64
         ensures { self.new.input ≡ self.old.input }
     {

@@ -13,3 +13,4 @@ pub mod Rows
 pub mod Fitting
 pub mod Lending
 pub mod Carrying
+pub mod Flows

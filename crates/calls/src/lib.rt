@@ -9,7 +9,7 @@
 //!
 //! A node may lend its devices for a flush and take them back (`Node::lend`, `Node::land`). The nodes of a server do so.
 //!
-//! Start at `specs/Asking.antt`, what may be asked and what is answered; then `Running`, which is all that a driver of flows has to know of one.
+//! Start at `specs/Asking.antt`, what may be asked and what is answered; then `Flow` and `Running`, which are all that a driver of flows has to know of one.
 #![tactic(auto)]
 
 mod asking;
@@ -17,9 +17,11 @@ mod boxed;
 mod call;
 mod carrying;
 mod fitting;
+mod flow;
 mod lending;
 mod looking;
 mod node;
+mod progress;
 mod reply;
 mod running;
 mod told;
@@ -28,9 +30,11 @@ pub use asking::{ask, refuse};
 pub use boxed::Boxed;
 pub use call::{CoordinatorCall, NodeCall, ShardCall};
 pub use carrying::Reach;
+pub use flow::Flow;
 pub use lending::{Flying, Lent};
 pub use looking::look;
 pub use node::Node;
+pub use progress::Progress;
 pub use reply::{CoordinatorReply, Reply, ShardReply};
 pub use running::Running;
 pub use told::Told;

@@ -1,5 +1,5 @@
 -- What the end of a learning says of its last reply.
-use Rattle.std.proofs.Common.{◌≡◌, ◌⊎◌, inl, inr, ℕ, ◌≤◌, ◌<◌, Bool, true, false, Option, Some, None, Ok, Err, MatchOption, ap, subst, refl, sym, ◌∙◌, arith}
+use Rattle.std.proofs.Common.{◌≡◌, ◌⊎◌, inl, inr, ℕ, ◌≤◌, ◌<◌, Bool, true, false, Option, Some, None, Ok, Err, MatchOption, ap, refl, sym, ◌∙◌, arith}
 use Rattle.std.proofs.lemmas.Bool.{cases_order, false≢true}
 use Rattle.refusal.specs.declared.refusal.Refusal.{Refusal}
 use Rattle.refusal.specs.declared.refusal.Refusal.TheVariants.{Collected, Full}
@@ -15,7 +15,7 @@ use Rattle.calls.specs.declared.reply.CoordinatorReply.TheVariants as told
 use Rattle.calls.specs.declared.reply.ShardReply.TheVariants as told_by
 use Rattle.care_flow.specs.declared.end.CareEnd.TheVariants.{Done, Refused, Resolved}
 use Rattle.care_flow.specs.CatchUps.{on_its_way}
-use Rattle.care_flow.specs.Learning.{AnswersSoFar, Fits, Gives, HasLearned, IsDone, LearnStep, LearnView, ProgressGives, ask, catch_up}
+use Rattle.care_flow.specs.Learning.{AnswersSoFar, Fits, Gives, HasLearned, LearnStep, LearnView, ProgressGives, ask, catch_up}
 use Rattle.care_flow.specs.Views.{over, ready}
 
 abbrev is_there : Progress → Bool
@@ -96,7 +96,7 @@ done_at s h (catch_up None) reply fits done = absurd fits
 done_at s h (catch_up (Some awaited)) reply fits done = by_heads s h.heads h.batch awaited reply fits done
 
 -- a learning is done only if the shard has answered that it has learned up to the kept place of the heads
-pub learning_is_done : (s : ℕ) (h : HeadsHeld) (awaited : Option LearnStep) (reply : Reply) (after : LearnView) → MatchOption awaited ⊥ (λ step. Fits step reply)
-    → MatchOption awaited ⊥ (λ step. Gives s h step reply after) → IsDone after → HasLearned h reply
-learning_is_done s h None reply after fits gives done = absurd fits
-learning_is_done s h (Some step) reply after fits gives done = done_at s h step reply fits (subst (Gives s h step reply) done gives)
+pub learning_is_done : (s : ℕ) (h : HeadsHeld) (awaited : Option LearnStep) (reply : Reply) → MatchOption awaited ⊥ (λ step. Fits step reply)
+    → MatchOption awaited ⊥ (λ step. Gives s h step reply (over no_heads Done)) → HasLearned h reply
+learning_is_done s h None reply fits gives = absurd fits
+learning_is_done s h (Some step) reply fits gives = done_at s h step reply fits gives

@@ -1,19 +1,21 @@
 -- Any care, as the flow that it is.
-use Rattle.std.specs.Prelude.{◌≡◌, ◌<◌, ℕ, Bool, true, false, [], map, Option, Some, is_some, option_map}
+use Rattle.std.specs.Prelude.{◌≡◌, ◌<◌, ℕ, Bool, true, false, [], Option, Some, None, is_some, option_map}
 use Rattle.decisions.specs.Flows.{no_heads, nothing_raised}
 use Rattle.calls.specs.Asking.{MayBeMade}
 use Rattle.calls.specs.Names.{name_of}
 use Rattle.calls.specs.declared.call.NodeCall.{NodeCall}
+use Rattle.calls.specs.declared.progress.Progress.{Progress}
+use Rattle.calls.specs.declared.progress.Progress.TheVariants.{Next, Ended}
 use Rattle.names.specs.declared.call_name.CallName.{CallName}
 use Rattle.names.specs.declared.call_name.CallName.TheVariants as names
 use Rattle.calls.specs.declared.reply.Reply.{Reply}
 use Rattle.care_flow.specs.declared.end.CareEnd.{CareEnd}
-use Rattle.care_flow.specs.declared.end.CareEnd.TheVariants.{Resolved as all_resolved}
 use Rattle.names.specs.declared.care.Care.{Care}
 use Rattle.names.specs.declared.care.Care.TheVariants as cares
 use Rattle.care_flow.specs.declared.care.CareFlow.{CareFlow}
 use Rattle.care_flow.specs.declared.care.CareFlow.TheVariants.{Flush, Learn, Resolve, Raise, Collect}
-use Rattle.care_flow.specs.Ends.{id_of}
+use Rattle.care_flow.specs.declared.care.CareCall.{CareCall}
+use Rattle.care_flow.specs.declared.care.CareCall.TheVariants as outs
 use Rattle.care_flow.specs.Flushing as flushing
 use Rattle.care_flow.specs.Learning as learning
 use Rattle.care_flow.specs.Resolving as resolving
@@ -98,5 +100,29 @@ GivesCare out reply later = Answered out reply later × GoesOrEnds (has_next lat
 
 -- a resolution reports on each write that was in doubt, in their order
 abbrev pub TellsOfEach : CareFlow → Option CareEnd → Type 0
-TellsOfEach (Resolve v) (Some (all_resolved all)) = map id_of all.items ≡ v.doubts
+TellsOfEach (Resolve v) (Some end) = resolving.TellsOfEach v.doubts end
 TellsOfEach flow end = Unit {0}
+
+-- its next call has this name
+abbrev pub Names : CareFlow → CallName → Type 0
+Names v name = (next_name_of v ≡ Some name) × (has_next v ≡ true)
+
+-- what is seen of it while its call is out
+abbrev pub while_out : CareCall → CareFlow
+while_out (outs.Flush v) = Flush v
+while_out (outs.Learn v) = Learn v
+while_out (outs.Resolve v) = Resolve v
+while_out (outs.Raise v) = Raise v
+while_out (outs.Collect v) = Collect v
+
+-- it has ended so
+pub record HasEnded (last : CareFlow) (end : CareEnd) : Type 0 where
+  pub unnamed : next_name_of last ≡ None
+  pub over : has_next last ≡ false
+  pub end_is : end_of last ≡ Some end
+  pub each : TellsOfEach last (Some end)
+
+-- What is left of it: it waits for its next turn, or has ended.
+abbrev pub MakesCare : CareCall → Reply → Progress CareFlow CareEnd → Type 0
+MakesCare call reply (Next later) = GivesCare (while_out call) reply later
+MakesCare call reply (Ended end) = (last : CareFlow) × GivesCare (while_out call) reply last × HasEnded last end

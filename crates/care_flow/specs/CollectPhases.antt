@@ -1,13 +1,14 @@
 -- What is seen of the phases of a collection.
-use Rattle.std.specs.Prelude.{Option, Some, None}
+use Rattle.std.specs.Prelude.{Some, None}
 use Rattle.decisions.specs.Values.{HeadsValue}
 use Rattle.decisions.specs.Flows.{HeadsHeld, no_heads}
+use Rattle.calls.specs.declared.progress.Progress.{Progress}
+use Rattle.calls.specs.declared.progress.Progress.TheVariants.{Next, Ended}
 use Rattle.care_flow.specs.declared.collecting.Ready.{Ready}
 use Rattle.care_flow.specs.declared.collecting.Ready.TheVariants as readies
 use Rattle.care_flow.specs.declared.collecting.Out.{Out}
 use Rattle.care_flow.specs.declared.collecting.Out.TheVariants as outs
-use Rattle.care_flow.specs.declared.collecting.Phase.{Phase}
-use Rattle.care_flow.specs.declared.collecting.Phase.TheVariants as phases
+use Rattle.care_flow.specs.declared.end.CareEnd.{CareEnd}
 use Rattle.care_flow.specs.Collecting.{CollectStep, CollectView, ask, collect, flush, flush_to_collect}
 use Rattle.care_flow.specs.Views.{out, over, ready}
 
@@ -46,17 +47,7 @@ held_out outs.Flush = no_heads
 abbrev pub view_out : Out → CollectView
 view_out o = out (held_out o) (step_out o)
 
-abbrev pub view_of : Phase → CollectView
-view_of (phases.Ready r) = view_ready r
-view_of (phases.Out o) = view_out o
-view_of (phases.Ended end) = over no_heads end
-
--- of the phase that a collection is in; it is taken out only within a call
-abbrev pub view_in : Option Phase → CollectView
-view_in None = ready no_heads ask
-view_in (Some p) = view_of p
-
--- a collection is in one of them
-abbrev pub IsIn : Option Phase → Type 0
-IsIn None = ⊥
-IsIn (Some p) = Unit {0}
+-- what a reply made of it
+abbrev pub view_of : Progress Ready CareEnd → CollectView
+view_of (Next r) = view_ready r
+view_of (Ended end) = over no_heads end

@@ -5,6 +5,8 @@ use Rattle.refusal.specs.declared.refusal.Refusal.TheVariants.{Full}
 use Rattle.decisions.specs.Values.{HeadsValue}
 use Rattle.decisions.specs.Flows.{HeadsHeld, no_heads}
 use Rattle.calls.specs.declared.call.NodeCall.{NodeCall}
+use Rattle.calls.specs.declared.progress.Progress.{Progress}
+use Rattle.calls.specs.declared.progress.Progress.TheVariants.{Next, Ended}
 use Rattle.names.specs.declared.call_name.CallName.{CallName}
 use Rattle.names.specs.declared.call_name.CallName.TheVariants as names
 use Rattle.calls.specs.declared.call.NodeCall.TheVariants.{Coordinator as of_coordinator, Shard as of_shard}
@@ -14,9 +16,10 @@ use Rattle.calls.specs.declared.reply.Reply.{Reply}
 use Rattle.calls.specs.declared.reply.Reply.TheVariants.{Coordinator as from_coordinator, Shard as from_shard}
 use Rattle.calls.specs.declared.reply.CoordinatorReply.TheVariants as told
 use Rattle.calls.specs.declared.reply.ShardReply.TheVariants as told_by
+use Rattle.care_flow.specs.declared.end.CareEnd.{CareEnd}
 use Rattle.care_flow.specs.declared.end.CareEnd.TheVariants.{Refused}
 use Rattle.care_flow.specs.Ends.{ended_by}
-use Rattle.care_flow.specs.Views.{CareView, out, over, ready}
+use Rattle.care_flow.specs.Views.{CareView, IsBehind, out, over, ready}
 
 -- the heads are asked for; the shard collects by them, for the first time or again after a flush; that flush; and the flush after the collection
 pub data CollectStep : Type 0 where
@@ -90,3 +93,8 @@ Awaits v reply = MatchOption v.seen.awaited ⊥ (λ step. Fits step reply)
 -- What the reply makes of it.
 abbrev pub Answered : CollectFlowValue → Reply → CollectFlowValue → Type 0
 Answered old reply new = MatchOption old.seen.awaited ⊥ (λ step. Gives old.seen.holds step reply new.seen)
+
+-- What is left of it: it waits for its next turn, or has ended.
+abbrev pub Makes : CollectFlowValue → Reply → Progress CollectFlowValue CareEnd → Type 0
+Makes old reply (Next new) = (new.shard ≡ old.shard) × Answered old reply new × IsBehind new.seen
+Makes old reply (Ended end) = Answered old reply (record old { seen = over no_heads end })

@@ -8,6 +8,8 @@ use Rattle.catch_up.specs.CatchingUp as catching
 use Rattle.catch_up.specs.declared.caught.Progress as progresses
 use Rattle.catch_up.specs.declared.caught.Progress.TheVariants.{Next, There, Refused as is_refused}
 use Rattle.calls.specs.declared.call.NodeCall.{NodeCall}
+use Rattle.calls.specs.declared.progress.Progress.{Progress}
+use Rattle.calls.specs.declared.progress.Progress.TheVariants as made
 use Rattle.names.specs.declared.call_name.CallName.{CallName}
 use Rattle.calls.specs.declared.call.NodeCall.TheVariants.{Coordinator as of_coordinator}
 use Rattle.calls.specs.declared.call.CoordinatorCall.TheVariants.{Heads}
@@ -15,9 +17,10 @@ use Rattle.calls.specs.declared.reply.Reply.{Reply}
 use Rattle.calls.specs.declared.reply.Reply.TheVariants.{Coordinator as from_coordinator, Shard as from_shard}
 use Rattle.calls.specs.declared.reply.CoordinatorReply.TheVariants as told
 use Rattle.calls.specs.declared.reply.ShardReply.TheVariants as told_by
+use Rattle.care_flow.specs.declared.end.CareEnd.{CareEnd}
 use Rattle.care_flow.specs.declared.end.CareEnd.TheVariants.{Done, Refused}
 use Rattle.care_flow.specs.CatchUps.{AsksToCatchUp, CatchUpGives, on_its_way}
-use Rattle.care_flow.specs.Views.{CareView, out, over, ready}
+use Rattle.care_flow.specs.Views.{CareView, IsBehind, out, over, ready}
 
 -- the heads are asked for; the shard is caught up to their kept place, with the call of that which is out
 pub data LearnStep : Type 0 where
@@ -74,6 +77,11 @@ Awaits v reply = MatchOption v.seen.awaited ⊥ (λ step. Fits step reply)
 abbrev pub Answered : LearnFlowValue → Reply → LearnFlowValue → Type 0
 Answered old reply new = MatchOption old.seen.awaited ⊥ (λ step. Gives old.shard old.seen.holds step reply new.seen)
 
+-- What is left of it: it waits for its next turn, or has ended.
+abbrev pub Makes : LearnFlowValue → Reply → Progress LearnFlowValue CareEnd → Type 0
+Makes old reply (made.Next new) = (new.shard ≡ old.shard) × Answered old reply new × IsBehind new.seen
+Makes old reply (made.Ended end) = Answered old reply (record old { seen = over no_heads end; next_name = None })
+
 -- the shard has answered that it has learned up to the place
 abbrev pub AnswersSoFar : ℕ → Reply → Type 0
 AnswersSoFar to reply = (n : ℕ) × (reply ≡ from_shard (told_by.Learned (Ok n))) × (to ≤ n)
@@ -81,7 +89,3 @@ AnswersSoFar to reply = (n : ℕ) × (reply ≡ from_shard (told_by.Learned (Ok 
 -- the shard has answered that it has learned up to the kept place of the heads
 abbrev pub HasLearned : HeadsHeld → Reply → Type 0
 HasLearned h reply = MatchOption h.heads ⊥ (λ heads. AnswersSoFar heads.kept reply)
-
--- it is done
-abbrev pub IsDone : LearnView → Type 0
-IsDone v = v ≡ over no_heads Done

@@ -2,7 +2,6 @@ pub mod Ends
 pub mod Views
 pub mod CatchUps
 pub mod Flushing
-pub mod FlushPhases
 pub mod Learning
 pub mod LearnPhases
 pub mod Collecting

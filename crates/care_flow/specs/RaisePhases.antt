@@ -4,13 +4,14 @@ use Rattle.decisions.specs.Values.{BatchValue, HeadsValue}
 use Rattle.decisions.specs.Flows.{RaiseHolds, nothing_raised}
 use Rattle.names.specs.declared.call_name.CallName.{CallName}
 use Rattle.names.specs.declared.call_name.CallName.TheVariants as names
+use Rattle.calls.specs.declared.progress.Progress.{Progress}
+use Rattle.calls.specs.declared.progress.Progress.TheVariants.{Next, Ended}
 use Rattle.care_flow.specs.Gatherings.{GatheredValue, GatheringValue}
 use Rattle.care_flow.specs.declared.raise_phase.Ready.{Ready}
 use Rattle.care_flow.specs.declared.raise_phase.Ready.TheVariants as readies
 use Rattle.care_flow.specs.declared.raise_phase.Out.{Out}
 use Rattle.care_flow.specs.declared.raise_phase.Out.TheVariants as outs
-use Rattle.care_flow.specs.declared.raise_phase.Phase.{Phase}
-use Rattle.care_flow.specs.declared.raise_phase.Phase.TheVariants as phases
+use Rattle.care_flow.specs.declared.end.CareEnd.{CareEnd}
 use Rattle.care_flow.specs.Raising.{RaiseStep, RaiseView, ask, catch_up, flush, flush_raised, flush_to_ask, flush_to_raise, raise, settle}
 use Rattle.care_flow.specs.Views.{out, over, ready}
 
@@ -77,17 +78,12 @@ held_out (outs.FlushRaised heads) = raised heads
 abbrev pub view_out : Out → RaiseView
 view_out o = out (held_out o) (step_out o)
 
-abbrev pub view_of : Phase → RaiseView
-view_of (phases.Ready r) = view_ready r
-view_of (phases.Out o) = view_out o
-view_of (phases.Ended end) = over nothing_raised end
+-- what a reply made of it
+abbrev pub view_of : Progress Ready CareEnd → RaiseView
+view_of (Next r) = view_ready r
+view_of (Ended end) = over nothing_raised end
 
--- of the phase that a raise is in; it is taken out only within a call
-abbrev pub view_in : Option Phase → RaiseView
-view_in None = ready nothing_raised ask
-view_in (Some p) = view_of p
-
--- the name of the next call, if there is one
+-- the name of the next call
 abbrev pub name_ready : Ready → CallName
 name_ready readies.Ask = names.Heads
 name_ready readies.FlushToAsk = names.Flush
@@ -97,15 +93,6 @@ name_ready (readies.Settle g) = names.Settle
 name_ready (readies.Raise g again) = names.Raise
 name_ready (readies.FlushToRaise g) = names.Flush
 name_ready (readies.FlushRaised heads) = names.Flush
-
-abbrev pub name_of : Phase → Option CallName
-name_of (phases.Ready r) = Some (name_ready r)
-name_of (phases.Out o) = None
-name_of (phases.Ended end) = None
-
-abbrev pub name_in : Option Phase → Option CallName
-name_in None = None
-name_in (Some p) = name_of p
 
 -- it is this shard's turn, in a store of this many, for a raise to the place
 pub record IsRoundOf (shards place : ℕ) (g : GatheringValue) : Type 0 where
@@ -132,13 +119,3 @@ IsOutOf shards place (outs.Settle g) = IsRoundOf shards place g
 IsOutOf shards place (outs.Raise heads again) = Unit {0}
 IsOutOf shards place (outs.FlushToRaise g) = (g.shards ≡ shards) × (g.place ≡ place)
 IsOutOf shards place (outs.FlushRaised heads) = Unit {0}
-
-abbrev pub IsPhaseOf : ℕ → ℕ → Phase → Type 0
-IsPhaseOf shards place (phases.Ready r) = IsReadyOf shards place r
-IsPhaseOf shards place (phases.Out o) = IsOutOf shards place o
-IsPhaseOf shards place (phases.Ended end) = Unit {0}
-
--- a raise is in one of them
-abbrev pub IsIn : ℕ → ℕ → Option Phase → Type 0
-IsIn shards place None = ⊥
-IsIn shards place (Some p) = IsPhaseOf shards place p

@@ -12,6 +12,8 @@ use Rattle.catch_up.specs.CatchingUp as catching
 use Rattle.catch_up.specs.declared.caught.Progress as progresses
 use Rattle.catch_up.specs.declared.caught.Progress.TheVariants.{Next, There, Refused as is_refused}
 use Rattle.calls.specs.declared.call.NodeCall.{NodeCall}
+use Rattle.calls.specs.declared.progress.Progress.{Progress}
+use Rattle.calls.specs.declared.progress.Progress.TheVariants as made
 use Rattle.names.specs.declared.call_name.CallName.{CallName}
 use Rattle.calls.specs.declared.call.NodeCall.TheVariants.{Coordinator as of_coordinator, Shard as of_shard}
 use Rattle.calls.specs.declared.call.CoordinatorCall.TheVariants.{Heads, Raise, Flush}
@@ -20,10 +22,11 @@ use Rattle.calls.specs.declared.reply.Reply.{Reply}
 use Rattle.calls.specs.declared.reply.Reply.TheVariants.{Coordinator as from_coordinator, Shard as from_shard}
 use Rattle.calls.specs.declared.reply.CoordinatorReply.TheVariants as told
 use Rattle.calls.specs.declared.reply.ShardReply.TheVariants as told_by
+use Rattle.care_flow.specs.declared.end.CareEnd.{CareEnd}
 use Rattle.care_flow.specs.declared.end.CareEnd.TheVariants.{Refused}
 use Rattle.care_flow.specs.Ends.{ended_by}
 use Rattle.care_flow.specs.CatchUps.{AsksToCatchUp, CatchUpGives, on_its_way}
-use Rattle.care_flow.specs.Views.{CareView, out, over, ready}
+use Rattle.care_flow.specs.Views.{CareView, IsBehind, out, over, ready}
 
 -- The heads are asked for, after a flush of the coordinator if they do not reach the place; each shard is caught up, with the call of that which is out, is
 -- flushed and answers what it has settled; the coordinator raises the horizon, for the first time or again after a flush; that flush; and the flush after
@@ -141,3 +144,8 @@ Awaits v reply = MatchOption v.seen.awaited ⊥ (λ step. Fits v.shards v.place 
 -- What the reply makes of it.
 abbrev pub Answered : RaiseFlowValue → Reply → RaiseFlowValue → Type 0
 Answered old reply new = MatchOption old.seen.awaited ⊥ (λ step. Gives old.shards old.place old.seen.holds step reply new.seen)
+
+-- What is left of it: it waits for its next turn, or has ended.
+abbrev pub Makes : RaiseFlowValue → Reply → Progress RaiseFlowValue CareEnd → Type 0
+Makes old reply (made.Next new) = (new.shards ≡ old.shards) × (new.place ≡ old.place) × Answered old reply new × IsBehind new.seen
+Makes old reply (made.Ended end) = Answered old reply (record old { seen = over nothing_raised end; next_name = None })

@@ -6,6 +6,8 @@ use Rattle.decisions.specs.Values.{BatchValue}
 use Rattle.decisions.specs.Flows.{ResolveHolds}
 use Rattle.names.specs.declared.call_name.CallName.{CallName}
 use Rattle.names.specs.declared.call_name.CallName.TheVariants as names
+use Rattle.calls.specs.declared.progress.Progress.{Progress}
+use Rattle.calls.specs.declared.progress.Progress.TheVariants.{Next, Ended}
 use Rattle.care_flow.specs.declared.end.CareEnd.{CareEnd}
 use Rattle.care_flow.specs.declared.end.CareEnd.TheVariants.{Refused, Resolved as all_resolved}
 use Rattle.care_flow.specs.declared.findings.Findings.{Findings}
@@ -13,8 +15,6 @@ use Rattle.care_flow.specs.declared.resolving.Ready.{Ready}
 use Rattle.care_flow.specs.declared.resolving.Ready.TheVariants as readies
 use Rattle.care_flow.specs.declared.resolving.Out.{Out}
 use Rattle.care_flow.specs.declared.resolving.Out.TheVariants as outs
-use Rattle.care_flow.specs.declared.resolving.Phase.{Phase}
-use Rattle.care_flow.specs.declared.resolving.Phase.TheVariants as phases
 use Rattle.care_flow.specs.Ends.{next_of, resolved_value}
 use Rattle.care_flow.specs.Resolving.{HasCommitted, ResolveStep, ResolveView, catch_up, drop_write, in_doubt, inquire}
 use Rattle.care_flow.specs.Views.{out, over, ready}
@@ -60,31 +60,17 @@ abbrev pub end_of : Findings → Result (Unit {0}) Refusal → CareEnd
 end_of f (Ok done) = all_resolved f.found
 end_of f (Err e) = Refused e
 
-abbrev pub view_of : Findings → Phase → ResolveView
-view_of f (phases.Ready r) = view_ready f r
-view_of f (phases.Out o) = view_out f o
-view_of f (phases.Ended end) = over (holding f None None) (end_of f end)
+-- what a reply made of it
+abbrev pub view_of : Findings → Progress Ready (Result (Unit {0}) Refusal) → ResolveView
+view_of f (Next r) = view_ready f r
+view_of f (Ended end) = over (holding f None None) (end_of f end)
 
--- of the phase that a resolution is in; it is taken out only within a call
-abbrev pub view_in : Findings → Option Phase → ResolveView
-view_in f None = ready (holding f None None) in_doubt
-view_in f (Some p) = view_of f p
-
--- the name of the next call, if there is one
+-- the name of the next call
 abbrev pub name_ready : Ready → CallName
 name_ready readies.AskDoubts = names.InDoubt
 name_ready (readies.Inquire id) = names.Inquire
 name_ready (readies.CatchUp c) = c.next
 name_ready (readies.Drop verdict) = names.DropWrite
-
-abbrev pub name_of : Phase → Option CallName
-name_of (phases.Ready r) = Some (name_ready r)
-name_of (phases.Out o) = None
-name_of (phases.Ended end) = None
-
-abbrev pub name_in : Option Phase → Option CallName
-name_in None = None
-name_in (Some p) = name_of p
 
 -- the coordinator is asked for the next write; the shard that is caught up is the flow's, and goes to the place of a write that
 -- was found to be decided; and it is done if no write comes next
@@ -100,13 +86,7 @@ IsOutOf s f (outs.Inquire id) = next_of f.doubts.items f.found.items ≡ Some id
 IsOutOf s f (outs.CatchUp c) = (c.held.shard ≡ s) × HasCommitted (map resolved_value f.found.items) c.held.to
 IsOutOf s f outs.Drop = Unit {0}
 
-abbrev pub IsPhaseOf : ℕ → Findings → Phase → Type 0
-IsPhaseOf s f (phases.Ready r) = IsReadyOf s f r
-IsPhaseOf s f (phases.Out o) = IsOutOf s f o
-IsPhaseOf s f (phases.Ended (Ok done)) = next_of f.doubts.items f.found.items ≡ None
-IsPhaseOf s f (phases.Ended (Err e)) = Unit {0}
-
--- a resolution is in one of them
-abbrev pub IsIn : ℕ → Findings → Option Phase → Type 0
-IsIn s f None = ⊥
-IsIn s f (Some p) = IsPhaseOf s f p
+abbrev pub IsLeftOf : ℕ → Findings → Progress Ready (Result (Unit {0}) Refusal) → Type 0
+IsLeftOf s f (Next r) = IsReadyOf s f r
+IsLeftOf s f (Ended (Ok done)) = next_of f.doubts.items f.found.items ≡ None
+IsLeftOf s f (Ended (Err e)) = Unit {0}

@@ -14,6 +14,8 @@ use Rattle.catch_up.specs.CatchingUp as catching
 use Rattle.catch_up.specs.declared.caught.Progress as progresses
 use Rattle.catch_up.specs.declared.caught.Progress.TheVariants.{Next, There, Refused as is_refused}
 use Rattle.calls.specs.declared.call.NodeCall.{NodeCall}
+use Rattle.calls.specs.declared.progress.Progress.{Progress}
+use Rattle.calls.specs.declared.progress.Progress.TheVariants as made
 use Rattle.names.specs.declared.call_name.CallName.{CallName}
 use Rattle.calls.specs.declared.call.NodeCall.TheVariants.{Coordinator as of_coordinator, Shard as of_shard}
 use Rattle.calls.specs.declared.call.CoordinatorCall.TheVariants.{Inquire}
@@ -22,11 +24,12 @@ use Rattle.calls.specs.declared.reply.Reply.{Reply}
 use Rattle.calls.specs.declared.reply.Reply.TheVariants.{Coordinator as from_coordinator, Shard as from_shard}
 use Rattle.calls.specs.declared.reply.CoordinatorReply.TheVariants as told
 use Rattle.calls.specs.declared.reply.ShardReply.TheVariants as told_by
+use Rattle.care_flow.specs.declared.end.CareEnd.{CareEnd}
 use Rattle.care_flow.specs.declared.end.CareEnd.TheVariants.{Refused, Resolved as all_resolved}
 use Rattle.care_flow.specs.declared.end.Resolved.{Resolved}
-use Rattle.care_flow.specs.Ends.{resolved_value}
+use Rattle.care_flow.specs.Ends.{id_of, resolved_value}
 use Rattle.care_flow.specs.CatchUps.{AsksToCatchUp, CatchUpGives, on_its_way}
-use Rattle.care_flow.specs.Views.{CareView, out, over, ready}
+use Rattle.care_flow.specs.Views.{CareView, IsBehind, out, over, ready}
 
 -- The shard is asked which writes are in doubt there; the coordinator is asked for one of them; the shard is caught up to the place of one that was decided,
 -- with the call of that which is out; or drops one that was aborted.
@@ -130,3 +133,13 @@ Awaits v reply = MatchOption v.seen.awaited ⊥ (λ step. Fits step reply)
 -- What the reply makes of it.
 abbrev pub Answered : ResolveFlowValue → Reply → ResolveFlowValue → Type 0
 Answered old reply new = MatchOption old.seen.awaited ⊥ (λ step. Gives old.shard old.doubts old.seen.holds step reply new.doubts new.seen)
+
+-- it reports on each of these writes, in their order
+abbrev pub TellsOfEach : List WriteId → CareEnd → Type 0
+TellsOfEach doubts (all_resolved all) = map id_of all.items ≡ doubts
+TellsOfEach doubts end = Unit {0}
+
+-- What is left of it: it waits for its next turn, or has ended with what it found.
+abbrev pub Makes : ResolveFlowValue → Reply → Progress ResolveFlowValue CareEnd → Type 0
+Makes old reply (made.Next new) = (new.shard ≡ old.shard) × Answered old reply new × IsBehind new.seen
+Makes old reply (made.Ended end) = (doubts : List WriteId) × (h : ResolveHolds) × Answered old reply (record old { doubts = doubts; seen = over h end; next_name = None }) × TellsOfEach doubts end

@@ -1,22 +1,19 @@
 // Any care.
-ghost use Rattle.std.specs.Prelude.{◌≡◌, ℕ, Some, None, is_some, option_map};
-ghost use Rattle.calls.specs.Asking.{MayBeMade};
-ghost use Rattle.calls.specs.Names.{name_of};
-ghost use Rattle.care_flow.specs.Cares.{Answered, Awaits, IsThere, NextCall, TellsOfEach, begun, end_of, has_next, next_name_of};
-ghost use Rattle.care_flow.specs.Views.{GoesOrEnds};
+ghost use Rattle.std.specs.Prelude.{◌≡◌};
+ghost use Rattle.care_flow.specs.Cares.{AsksCare, Awaits, IsThere, MakesCare, Names, begun, while_out};
 
-use crate::collecting::CollectFlow;
+use crate::collecting::{CollectCall, CollectFlow};
 use crate::end::CareEnd;
-use crate::flushing::FlushFlow;
-use crate::learning::LearnFlow;
-use crate::raising::RaiseFlow;
-use crate::resolving::ResolveFlow;
-use calls::{NodeCall, Reply};
+use crate::flushing::{FlushCall, FlushFlow};
+use crate::learning::{LearnCall, LearnFlow};
+use crate::raising::{RaiseCall, RaiseFlow};
+use crate::resolving::{ResolveCall, ResolveFlow};
+use calls::{Flow, NodeCall, Progress, Reply};
 use names::{CallName, Care};
 use std::alloc::Global;
 use tuples::Shards;
 
-/// A care on its way. It can be dropped between two calls, and nothing is lost by that.
+/// A care that waits for its next turn. It can be dropped between two calls, and nothing is lost by that.
 #[derive(Drop)]
 #[must_use]
 pub enum CareFlow {
@@ -26,6 +23,17 @@ pub enum CareFlow {
     Resolve(ResolveFlow),
     Raise(RaiseFlow),
     Collect(CollectFlow),
+}
+
+/// A call of it is out.
+#[derive(Drop)]
+#[must_use]
+pub enum CareCall {
+    Flush(FlushCall),
+    Learn(LearnCall),
+    Resolve(ResolveCall),
+    Raise(RaiseCall),
+    Collect(CollectCall),
 }
 
 impl CareFlow {
@@ -42,12 +50,26 @@ impl CareFlow {
             Care::Collect(shard) => CareFlow::Collect(CollectFlow::new(shard)),
         }
     }
+}
 
-    /// The name of its next call. None if it has ended, or while a call is out.
-    pub fn next_name(&self) -> Option<CallName>
-        ensures name { result ≡ next_name_of self.now }
-        ensures some { is_some result ≡ has_next self.now }
-    {
+impl Flow for CareFlow {
+    type Out = CareCall;
+
+    type End = CareEnd;
+
+    ghost named = { Names };
+
+    ghost is_of = { IsThere };
+
+    ghost is_of_out = { λ shards out. IsThere shards (while_out out) };
+
+    ghost asks = { λ f call out. AsksCare f call (while_out out) };
+
+    ghost awaits = { λ out reply. Awaits (while_out out) reply };
+
+    ghost gives = { MakesCare };
+
+    fn next_name(&self) -> CallName {
         match self {
             CareFlow::Flush(flow) => flow.next_name(),
             CareFlow::Learn(flow) => flow.next_name(),
@@ -57,47 +79,50 @@ impl CareFlow {
         }
     }
 
-    /// Its next call, which has to be made, and the reply given. None if it has ended, or while a call is out.
-    pub fn next_call(&mut self) -> Option<NodeCall>
-        ensures call { NextCall self.old result self.new }
-        ensures name { (option_map name_of result ≡ next_name_of self.old) × (next_name_of self.new ≡ None) }
-        ensures owed { (shards : ℕ) (call : _) → IsThere shards self.old → result ≡ Some call → MayBeMade shards call }
-    {
+    fn next_call(self) -> (NodeCall, CareCall) {
         match self {
-            CareFlow::Flush(flow) => flow.next_call(),
-            CareFlow::Learn(flow) => flow.next_call(),
-            CareFlow::Resolve(flow) => flow.next_call(),
-            CareFlow::Raise(flow) => flow.next_call(),
-            CareFlow::Collect(flow) => flow.next_call(),
+            CareFlow::Flush(flow) => {
+                let (call, out) = flow.next_call();
+                (call, CareCall::Flush(out))
+            }
+            CareFlow::Learn(flow) => {
+                let (call, out) = flow.next_call();
+                (call, CareCall::Learn(out))
+            }
+            CareFlow::Resolve(flow) => {
+                let (call, out) = flow.next_call();
+                (call, CareCall::Resolve(out))
+            }
+            CareFlow::Raise(flow) => {
+                let (call, out) = flow.next_call();
+                (call, CareCall::Raise(out))
+            }
+            CareFlow::Collect(flow) => {
+                let (call, out) = flow.next_call();
+                (call, CareCall::Collect(out))
+            }
         }
     }
 
-    /// What the reply to its call makes of it.
-    pub fn give(&mut self, reply: Reply)
-        requires { Awaits self.old reply }
-        ensures gives { Answered self.old reply self.new }
-        ensures rests { GoesOrEnds (has_next self.new) (end_of self.new) }
-    {
-        match self {
-            CareFlow::Flush(flow) => flow.give(reply),
-            CareFlow::Learn(flow) => flow.give(reply),
-            CareFlow::Resolve(flow) => flow.give(reply),
-            CareFlow::Raise(flow) => flow.give(reply),
-            CareFlow::Collect(flow) => flow.give(reply),
-        }
-    }
-
-    /// How it ended, if it has.
-    pub fn finish(self) -> Option<CareEnd>
-        ensures end { result ≡ end_of self }
-        ensures each { TellsOfEach self result }
-    {
-        match self {
-            CareFlow::Flush(flow) => flow.finish(),
-            CareFlow::Learn(flow) => flow.finish(),
-            CareFlow::Resolve(flow) => flow.finish(),
-            CareFlow::Raise(flow) => flow.finish(),
-            CareFlow::Collect(flow) => flow.finish(),
+    fn give(out: CareCall, reply: Reply) -> Progress<CareFlow, CareEnd> {
+        match out {
+            CareCall::Flush(call) => Progress::Ended(call.give(reply)),
+            CareCall::Learn(call) => match call.give(reply) {
+                Progress::Next(flow) => Progress::Next(CareFlow::Learn(flow)),
+                Progress::Ended(end) => Progress::Ended(end),
+            },
+            CareCall::Resolve(call) => match call.give(reply) {
+                Progress::Next(flow) => Progress::Next(CareFlow::Resolve(flow)),
+                Progress::Ended(end) => Progress::Ended(end),
+            },
+            CareCall::Raise(call) => match call.give(reply) {
+                Progress::Next(flow) => Progress::Next(CareFlow::Raise(flow)),
+                Progress::Ended(end) => Progress::Ended(end),
+            },
+            CareCall::Collect(call) => match call.give(reply) {
+                Progress::Next(flow) => Progress::Next(CareFlow::Collect(flow)),
+                Progress::Ended(end) => Progress::Ended(end),
+            },
         }
     }
 }

@@ -1,13 +1,14 @@
 // A shard collects what no read needs.
-ghost use Rattle.std.specs.Prelude.{◌≡◌, ◌<◌, ℕ, None, Some, option_map};
+ghost use Rattle.std.specs.Prelude.{◌≡◌, ◌<◌, ℕ, Some, is_some, true, option_map};
 ghost use Rattle.decisions.specs.Flows.{no_heads};
 ghost use Rattle.calls.specs.Asking.{MayBeMade};
-ghost use Rattle.care_flow.specs.Collecting.{Answered, Asks, Awaits, CollectGives, Fits, FlushGives, Gives, HeadsGive, NextCall, ask, name_of};
+ghost use Rattle.calls.specs.Names.{name_of as name_of_call};
+ghost use Rattle.care_flow.specs.Collecting.{Asks, Awaits, CollectGives, Fits, FlushGives, Gives, HeadsGive, Makes, NextCall, ask, name_of};
 ghost use Rattle.care_flow.specs.CollectPhases.{having, held_out, held_ready, step_out, step_ready, view_of, view_out};
-ghost use Rattle.care_flow.specs.Views.{IsBehind, ready};
+ghost use Rattle.care_flow.specs.Views.{ready};
 
 use crate::end::{CareEnd, end_by};
-use calls::{CoordinatorCall, CoordinatorReply, NodeCall, Reply, ShardCall, ShardReply};
+use calls::{CoordinatorCall, CoordinatorReply, NodeCall, Progress, Reply, ShardCall, ShardReply};
 use decisions::Heads;
 use names::CallName;
 use std::marker::Model;
@@ -25,18 +26,6 @@ pub(crate) enum Ready {
     Flush,
 }
 
-impl Ready {
-    fn name(&self) -> CallName
-        ensures { result ≡ name_of (step_ready self.now) }
-    {
-        match self {
-            Ready::Ask => CallName::Heads,
-            Ready::Collect(_, _) => CallName::Collect,
-            Ready::FlushToCollect(_) | Ready::Flush => CallName::Flush,
-        }
-    }
-}
-
 /// The call that is out, with what stays here.
 #[derive(Drop)]
 pub(crate) enum Out {
@@ -46,20 +35,12 @@ pub(crate) enum Out {
     Flush,
 }
 
-#[derive(Drop)]
-pub(crate) enum Phase {
-    Ready(Ready),
-    Out(Out),
-    Ended(CareEnd),
-}
-
 /// Lets a shard forget the versions that no read from the horizon on needs.
 #[derive(Drop)]
 #[must_use]
 pub struct CollectFlow {
     shard: u8,
-    // taken out only within a call
-    phase: Option<Phase>,
+    ready: Ready,
 }
 
 impl Model for CollectFlow {
@@ -67,18 +48,27 @@ impl Model for CollectFlow {
 
     ghost Value = { CollectFlowValue };
 
-    ghost use Rattle.care_flow.specs.CollectPhases.{IsIn, view_in};
+    ghost use Rattle.care_flow.specs.CollectPhases.{view_ready};
 
-    ghost view = { λ f. record { shard = f.shard; seen = view_in f.phase } };
-
-    ghost invariant = { λ f. IsIn f.phase };
+    ghost view = { λ f. record { shard = f.shard; seen = view_ready f.ready } };
 }
 
-// Puts a phase back.
-fn put(place: &mut Option<Phase>, phase: Phase)
-    ensures { place.new ≡ Some phase }
-{
-    *place = Some(phase);
+/// A call of it is out.
+#[derive(Drop)]
+#[must_use]
+pub struct CollectCall {
+    shard: u8,
+    out: Out,
+}
+
+impl Model for CollectCall {
+    ghost use Rattle.care_flow.specs.Collecting.{CollectFlowValue};
+
+    ghost Value = { CollectFlowValue };
+
+    ghost use Rattle.care_flow.specs.CollectPhases.{view_out};
+
+    ghost view = { λ c. record { shard = c.shard; seen = view_out c.out } };
 }
 
 // The call of a phase, and the phase while it is out.
@@ -100,51 +90,47 @@ fn next(shard: u8, ready: Ready) -> (NodeCall, Out)
     }
 }
 
-fn refused(refusal: Refusal) -> Phase
-    ensures { result ≡ Phase.Ended (CareEnd.Refused refusal) }
+fn refused(refusal: Refusal) -> Progress<Ready, CareEnd>
+    ensures { result ≡ Progress.Ended (CareEnd.Refused refusal) }
 {
-    Phase::Ended(CareEnd::Refused(refusal))
+    Progress::Ended(CareEnd::Refused(refusal))
 }
 
-fn answered(answer: Result<Heads, Refusal>) -> Phase
-    ensures gives { HeadsGive no_heads answer (view_of result) }
-    ensures rests { IsBehind (view_of result) }
+fn answered(answer: Result<Heads, Refusal>) -> Progress<Ready, CareEnd>
+    ensures { HeadsGive no_heads answer (view_of result) }
 {
     match answer {
-        Ok(heads) => Phase::Ready(Ready::Collect(heads, false)),
+        Ok(heads) => Progress::Next(Ready::Collect(heads, false)),
         Err(refusal) => refused(refusal),
     }
 }
 
-fn collected(is_again: bool, heads: Heads, answer: Result<(), Refusal>) -> Phase
-    ensures gives { CollectGives no_heads is_again heads answer (view_of result) }
-    ensures rests { IsBehind (view_of result) }
+fn collected(is_again: bool, heads: Heads, answer: Result<(), Refusal>) -> Progress<Ready, CareEnd>
+    ensures { CollectGives no_heads is_again heads answer (view_of result) }
 {
     match answer {
-        Ok(()) => Phase::Ready(Ready::Flush),
+        Ok(()) => Progress::Next(Ready::Flush),
         Err(refusal) => {
             if refusal == Refusal::Full && !is_again {
-                return Phase::Ready(Ready::FlushToCollect(heads));
+                return Progress::Next(Ready::FlushToCollect(heads));
             }
             refused(refusal)
         }
     }
 }
 
-fn flushed(heads: Heads, answer: Result<(), Refusal>) -> Phase
-    ensures gives { FlushGives (having heads) answer (view_of result) }
-    ensures rests { IsBehind (view_of result) }
+fn flushed(heads: Heads, answer: Result<(), Refusal>) -> Progress<Ready, CareEnd>
+    ensures { FlushGives (having heads) answer (view_of result) }
 {
     match answer {
-        Ok(()) => Phase::Ready(Ready::Collect(heads, true)),
+        Ok(()) => Progress::Next(Ready::Collect(heads, true)),
         Err(refusal) => refused(refusal),
     }
 }
 
-fn give(out: Out, reply: Reply) -> Phase
+fn give(out: Out, reply: Reply) -> Progress<Ready, CareEnd>
     requires { Fits (step_out out) reply }
-    ensures gives { Gives (held_out out) (step_out out) reply (view_of result) }
-    ensures rests { IsBehind (view_of result) }
+    ensures { Gives (held_out out) (step_out out) reply (view_of result) }
 {
     match out {
         Out::Ask => match reply {
@@ -160,7 +146,7 @@ fn give(out: Out, reply: Reply) -> Phase
             _ => unreachable!(),
         },
         Out::Flush => match reply {
-            Reply::Shard(ShardReply::Flush(answer)) => Phase::Ended(end_by(answer)),
+            Reply::Shard(ShardReply::Flush(answer)) => Progress::Ended(end_by(answer)),
             _ => unreachable!(),
         },
     }
@@ -173,65 +159,46 @@ impl CollectFlow {
     {
         CollectFlow {
             shard,
-            phase: Some(Phase::Ready(Ready::Ask)),
+            ready: Ready::Ask,
         }
     }
 
-    /// The name of its next call. None if it has ended, or while a call is out.
-    pub fn next_name(&self) -> Option<CallName>
-        ensures { result ≡ option_map name_of self.now.seen.next }
+    /// The name of its next call.
+    pub fn next_name(&self) -> CallName
+        ensures name { option_map name_of self.now.seen.next ≡ Some result }
+        ensures comes { is_some self.now.seen.next ≡ true }
     {
-        match &self.phase {
-            Some(Phase::Ready(ready)) => Some(ready.name()),
-            _ => None,
+        match &self.ready {
+            Ready::Ask => CallName::Heads,
+            Ready::Collect(_, _) => CallName::Collect,
+            Ready::FlushToCollect(_) | Ready::Flush => CallName::Flush,
         }
     }
 
-    /// Its next call, which has to be made, and the reply given. None if it has ended, or while a call is out.
-    pub fn next_call(&mut self) -> Option<NodeCall>
-        ensures shard { self.new.shard ≡ self.old.shard }
-        ensures call { NextCall self.old result self.new }
-        ensures owed { (shards : ℕ) (call : _) → self.old.shard < shards → result ≡ Some call → MayBeMade shards call }
+    /// Its next call, which has to be made, and what waits for the reply.
+    pub fn next_call(self) -> (NodeCall, CollectCall)
+        ensures shard { result.1.shard ≡ self.shard }
+        ensures call { NextCall self (Some result.0) result.1 }
+        ensures name { option_map name_of self.seen.next ≡ Some (name_of_call result.0) }
+        ensures comes { is_some self.seen.next ≡ true }
+        ensures owed { (shards : ℕ) → self.shard < shards → MayBeMade shards result.0 }
     {
-        let Some(phase) = self.phase.take() else {
-            unreachable!();
-        };
-        match phase {
-            Phase::Ready(ready) => {
-                let (call, out) = next(self.shard, ready);
-                put(&mut self.phase, Phase::Out(out));
-                Some(call)
-            }
-            other => {
-                put(&mut self.phase, other);
-                None
-            }
-        }
+        let CollectFlow { shard, ready } = self;
+        let (call, out) = next(shard, ready);
+        (call, CollectCall { shard, out })
     }
+}
 
-    /// What the reply to its call makes of it.
-    pub fn give(&mut self, reply: Reply)
-        requires { Awaits self.old reply }
-        ensures shard { self.new.shard ≡ self.old.shard }
-        ensures gives { Answered self.old reply self.new }
-        ensures rests { IsBehind self.new.seen }
+impl CollectCall {
+    /// What the reply makes of it.
+    pub fn give(self, reply: Reply) -> Progress<CollectFlow, CareEnd>
+        requires { Awaits self reply }
+        ensures { Makes self reply result }
     {
-        let Some(phase) = self.phase.take() else {
-            unreachable!();
-        };
-        let Phase::Out(out) = phase else {
-            unreachable!();
-        };
-        put(&mut self.phase, give(out, reply));
-    }
-
-    /// How it ended, if it has.
-    pub fn finish(self) -> Option<CareEnd>
-        ensures { result ≡ self.seen.ended }
-    {
-        match self.phase {
-            Some(Phase::Ended(end)) => Some(end),
-            _ => None,
+        let CollectCall { shard, out } = self;
+        match give(out, reply) {
+            Progress::Next(ready) => Progress::Next(CollectFlow { shard, ready }),
+            Progress::Ended(end) => Progress::Ended(end),
         }
     }
 }

@@ -1,17 +1,18 @@
 // A shard learns all that is kept.
-ghost use Rattle.std.specs.Prelude.{◌≡◌, ◌<◌, ℕ, None, Some, is_some, option_map};
+ghost use Rattle.std.specs.Prelude.{◌≡◌, ◌<◌, ℕ, Some, is_some, true};
 ghost use Rattle.decisions.specs.Flows.{no_heads};
 ghost use Rattle.calls.specs.Asking.{MayBeMade};
+ghost use Rattle.calls.specs.Flows.{IfNext};
 ghost use Rattle.calls.specs.Names.{name_of as name_of_call};
 ghost use Rattle.names.specs.declared.call_name.CallName.TheVariants as names;
 ghost use Rattle.catch_up.specs.CatchingUp.{Fits as FitsCatchUp};
-ghost use Rattle.care_flow.specs.Learning.{Answered, Asks, Awaits, Fits, Gives, HasLearned, HeadsGive, IsDone, NextCall, ask, catch_up as catching};
-ghost use Rattle.care_flow.specs.LearnPhases.{IsOutOf, IsPhaseOf, IsReadyOf, held_out, held_ready, name_ready, step_out, step_ready, view_of, view_out};
-ghost use Rattle.care_flow.specs.Views.{IsBehind, ready};
+ghost use Rattle.care_flow.specs.Learning.{Asks, Awaits, Fits, Gives, HasLearned, HeadsGive, Makes, NextCall, ask, catch_up as catching};
+ghost use Rattle.care_flow.specs.LearnPhases.{IsOutOf, IsReadyOf, held_out, held_ready, name_ready, step_out, step_ready, view_of, view_out};
+ghost use Rattle.care_flow.specs.Views.{ready};
 
 use crate::end::CareEnd;
-use calls::{CoordinatorCall, CoordinatorReply, NodeCall, Reply};
-use catch_up::{CatchUp, CatchUpCall, Progress};
+use calls::{CoordinatorCall, CoordinatorReply, NodeCall, Progress, Reply};
+use catch_up::{CatchUp, CatchUpCall};
 use decisions::Heads;
 use names::CallName;
 use std::marker::Model;
@@ -25,17 +26,6 @@ pub(crate) enum Ready {
     CatchUp(Heads, CatchUp),
 }
 
-impl Ready {
-    fn name(&self) -> CallName
-        ensures { result ≡ name_ready self.now }
-    {
-        match self {
-            Ready::Ask => CallName::Heads,
-            Ready::CatchUp(_, catch_up) => catch_up.next_name(),
-        }
-    }
-}
-
 /// The call that is out, with what stays here.
 #[derive(Drop)]
 pub(crate) enum Out {
@@ -43,39 +33,46 @@ pub(crate) enum Out {
     CatchUp(Heads, CatchUpCall),
 }
 
-#[derive(Drop)]
-pub(crate) enum Phase {
-    Ready(Ready),
-    Out(Out),
-    Ended(CareEnd),
-}
-
 /// Brings a shard up to the place that was kept when the coordinator was asked.
 #[derive(Drop)]
 #[must_use]
 pub struct LearnFlow {
     shard: u8,
-    // taken out only within a call
-    phase: Option<Phase>,
+    ready: Ready,
 }
 
 impl Model for LearnFlow {
+    ghost use Rattle.std.specs.Prelude.{Some};
     ghost use Rattle.care_flow.specs.Learning.{LearnFlowValue};
 
     ghost Value = { LearnFlowValue };
 
-    ghost use Rattle.care_flow.specs.LearnPhases.{IsIn, name_in, view_in};
+    ghost use Rattle.care_flow.specs.LearnPhases.{IsReadyOf, name_ready, view_ready};
 
-    ghost view = { λ f. record { shard = f.shard; seen = view_in f.phase; next_name = name_in f.phase } };
+    ghost view = { λ f. record { shard = f.shard; seen = view_ready f.ready; next_name = Some (name_ready f.ready) } };
 
-    ghost invariant = { λ f. IsIn f.shard f.phase };
+    ghost invariant = { λ f. IsReadyOf f.shard f.ready };
 }
 
-// Puts a phase back.
-fn put(place: &mut Option<Phase>, phase: Phase)
-    ensures { place.new ≡ Some phase }
-{
-    *place = Some(phase);
+/// A call of it is out.
+#[derive(Drop)]
+#[must_use]
+pub struct LearnCall {
+    shard: u8,
+    out: Out,
+}
+
+impl Model for LearnCall {
+    ghost use Rattle.std.specs.Prelude.{None};
+    ghost use Rattle.care_flow.specs.Learning.{LearnFlowValue};
+
+    ghost Value = { LearnFlowValue };
+
+    ghost use Rattle.care_flow.specs.LearnPhases.{IsOutOf, view_out};
+
+    ghost view = { λ c. record { shard = c.shard; seen = view_out c.out; next_name = None } };
+
+    ghost invariant = { λ c. IsOutOf c.shard c.out };
 }
 
 // The call of a phase, and the phase while it is out.
@@ -96,46 +93,43 @@ fn next(shard: u8, ready: Ready) -> (NodeCall, Out)
     }
 }
 
-fn refused(refusal: Refusal) -> Phase
-    ensures { result ≡ Phase.Ended (CareEnd.Refused refusal) }
+fn refused(refusal: Refusal) -> Progress<Ready, CareEnd>
+    ensures { result ≡ Progress.Ended (CareEnd.Refused refusal) }
 {
-    Phase::Ended(CareEnd::Refused(refusal))
+    Progress::Ended(CareEnd::Refused(refusal))
 }
 
-fn answered(shard: u8, answer: Result<Heads, Refusal>) -> Phase
+fn answered(shard: u8, answer: Result<Heads, Refusal>) -> Progress<Ready, CareEnd>
     ensures gives { HeadsGive no_heads answer (view_of result) }
-    ensures rests { IsBehind (view_of result) }
-    ensures kept { IsPhaseOf shard result }
+    ensures kept { IfNext result (IsReadyOf shard) }
 {
     match answer {
         Ok(heads) => {
             let catch_up = CatchUp::new(shard, heads.kept());
-            Phase::Ready(Ready::CatchUp(heads, catch_up))
+            Progress::Next(Ready::CatchUp(heads, catch_up))
         }
         Err(refusal) => refused(refusal),
     }
 }
 
-fn caught_up(heads: Heads, call: CatchUpCall, reply: Reply) -> Phase
+fn caught_up(heads: Heads, call: CatchUpCall, reply: Reply) -> Progress<Ready, CareEnd>
     requires fits { FitsCatchUp call.awaited reply }
     requires to { call.held.to ≡ heads.kept }
     ensures gives { Gives call.held.shard (held_out (Out.CatchUp heads call)) (catching (Some call.awaited)) reply (view_of result) }
-    ensures rests { IsBehind (view_of result) }
-    ensures kept { IsPhaseOf call.held.shard result }
+    ensures kept { IfNext result (IsReadyOf call.held.shard) }
 {
     match call.give(reply) {
-        Progress::Next(catch_up) => Phase::Ready(Ready::CatchUp(heads, catch_up)),
-        Progress::There => Phase::Ended(CareEnd::Done),
-        Progress::Refused(refusal) => refused(refusal),
+        catch_up::Progress::Next(catch_up) => Progress::Next(Ready::CatchUp(heads, catch_up)),
+        catch_up::Progress::There => Progress::Ended(CareEnd::Done),
+        catch_up::Progress::Refused(refusal) => refused(refusal),
     }
 }
 
-fn give(shard: u8, out: Out, reply: Reply) -> Phase
+fn give(shard: u8, out: Out, reply: Reply) -> Progress<Ready, CareEnd>
     requires fits { Fits (step_out out) reply }
     requires kept { IsOutOf shard out }
     ensures gives { Gives shard (held_out out) (step_out out) reply (view_of result) }
-    ensures rests { IsBehind (view_of result) }
-    ensures kept { IsPhaseOf shard result }
+    ensures kept { IfNext result (IsReadyOf shard) }
 {
     match out {
         Out::Ask => match reply {
@@ -153,68 +147,46 @@ impl LearnFlow {
     {
         LearnFlow {
             shard,
-            phase: Some(Phase::Ready(Ready::Ask)),
+            ready: Ready::Ask,
         }
     }
 
-    /// The name of its next call. None if it has ended, or while a call is out.
-    pub fn next_name(&self) -> Option<CallName>
-        ensures name { result ≡ self.now.next_name }
-        ensures some { is_some result ≡ is_some self.now.seen.next }
+    /// The name of its next call.
+    pub fn next_name(&self) -> CallName
+        ensures name { self.now.next_name ≡ Some result }
+        ensures comes { is_some self.now.seen.next ≡ true }
     {
-        match &self.phase {
-            Some(Phase::Ready(ready)) => Some(ready.name()),
-            _ => None,
+        match &self.ready {
+            Ready::Ask => CallName::Heads,
+            Ready::CatchUp(_, catch_up) => catch_up.next_name(),
         }
     }
 
-    /// Its next call, which has to be made, and the reply given. None if it has ended, or while a call is out.
-    pub fn next_call(&mut self) -> Option<NodeCall>
-        ensures shard { self.new.shard ≡ self.old.shard }
-        ensures call { NextCall self.old result self.new }
-        ensures name { (option_map name_of_call result ≡ self.old.next_name) × (self.new.next_name ≡ None) }
-        ensures owed { (shards : ℕ) (call : _) → self.old.shard < shards → result ≡ Some call → MayBeMade shards call }
+    /// Its next call, which has to be made, and what waits for the reply.
+    pub fn next_call(self) -> (NodeCall, LearnCall)
+        ensures shard { result.1.shard ≡ self.shard }
+        ensures call { NextCall self (Some result.0) result.1 }
+        ensures name { self.next_name ≡ Some (name_of_call result.0) }
+        ensures comes { is_some self.seen.next ≡ true }
+        ensures owed { (shards : ℕ) → self.shard < shards → MayBeMade shards result.0 }
     {
-        let Some(phase) = self.phase.take() else {
-            unreachable!();
-        };
-        match phase {
-            Phase::Ready(ready) => {
-                let (call, out) = next(self.shard, ready);
-                put(&mut self.phase, Phase::Out(out));
-                Some(call)
-            }
-            other => {
-                put(&mut self.phase, other);
-                None
-            }
-        }
+        let LearnFlow { shard, ready } = self;
+        let (call, out) = next(shard, ready);
+        (call, LearnCall { shard, out })
     }
+}
 
-    /// What the reply to its call makes of it. It is done only if the shard has answered that it has learned up to the kept place.
-    pub fn give(&mut self, reply: Reply)
-        requires { Awaits self.old reply }
-        ensures shard { self.new.shard ≡ self.old.shard }
-        ensures gives { Answered self.old reply self.new }
-        ensures rests { IsBehind self.new.seen }
-        ensures done { IsDone self.new.seen → HasLearned self.old.seen.holds reply }
+impl LearnCall {
+    /// What the reply makes of it. It is done only if the shard has answered that it has learned up to the kept place.
+    pub fn give(self, reply: Reply) -> Progress<LearnFlow, CareEnd>
+        requires { Awaits self reply }
+        ensures makes { Makes self reply result }
+        ensures done { result ≡ Progress.Ended CareEnd.Done → HasLearned self.seen.holds reply }
     {
-        let Some(phase) = self.phase.take() else {
-            unreachable!();
-        };
-        let Phase::Out(out) = phase else {
-            unreachable!();
-        };
-        put(&mut self.phase, give(self.shard, out, reply));
-    }
-
-    /// How it ended, if it has.
-    pub fn finish(self) -> Option<CareEnd>
-        ensures { result ≡ self.seen.ended }
-    {
-        match self.phase {
-            Some(Phase::Ended(end)) => Some(end),
-            _ => None,
+        let LearnCall { shard, out } = self;
+        match give(shard, out, reply) {
+            Progress::Next(ready) => Progress::Next(LearnFlow { shard, ready }),
+            Progress::Ended(end) => Progress::Ended(end),
         }
     }
 }

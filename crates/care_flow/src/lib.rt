@@ -20,12 +20,11 @@ mod raise_phase;
 mod raise_replies;
 mod raising;
 mod resolving;
-mod running;
 
-pub use care::CareFlow;
-pub use collecting::CollectFlow;
+pub use care::{CareCall, CareFlow};
+pub use collecting::{CollectCall, CollectFlow};
 pub use end::{CareEnd, Resolved};
-pub use flushing::FlushFlow;
-pub use learning::LearnFlow;
-pub use raising::RaiseFlow;
-pub use resolving::ResolveFlow;
+pub use flushing::{FlushCall, FlushFlow};
+pub use learning::{LearnCall, LearnFlow};
+pub use raising::{RaiseCall, RaiseFlow};
+pub use resolving::{ResolveCall, ResolveFlow};

@@ -2,55 +2,58 @@
 ghost use Rattle.std.specs.Prelude.{◌≡◌, ◌<◌, ℕ, None, Some, IfErr};
 ghost use Rattle.decisions.specs.Coordinators.{HaveSettled};
 ghost use Rattle.decisions.specs.Flows.{nothing_raised};
+ghost use Rattle.calls.specs.Flows.{IfNext};
 ghost use Rattle.catch_up.specs.CatchingUp.{Fits as FitsCatchUp};
 ghost use Rattle.care_flow.specs.Raising.{Fits, FlushGives, Gives, GoesRound, HeadsGive, RaiseGives, SettleGives, catch_up as catching};
-ghost use Rattle.care_flow.specs.Views.{IsBehind, ready};
-ghost use Rattle.care_flow.specs.RaisePhases.{IsOutOf, IsPhaseOf, IsReadyOf, IsRoundOf, gathering as held_by, handed_in, held_out, step_out, view_of, view_ready};
+ghost use Rattle.care_flow.specs.Views.{ready};
+ghost use Rattle.care_flow.specs.RaisePhases.{IsOutOf, IsReadyOf, IsRoundOf, gathering as held_by, handed_in, held_out, step_out, view_of, view_ready};
 
 use crate::end::{CareEnd, end_by};
 use crate::gathering::{Gathered, Gathering};
-use crate::raise_phase::{Out, Phase, Ready};
-use calls::{CoordinatorReply, Reply, ShardReply};
-use catch_up::{CatchUpCall, Progress};
+use crate::raise_phase::{Out, Ready};
+use calls::{CoordinatorReply, Progress, Reply, ShardReply};
+use catch_up::CatchUpCall;
 use coordinator::NotRaised;
 use decisions::{Heads, Settled};
 use std::alloc::Global;
 use tuples::{Refusal, Shards};
 
-fn refused(refusal: Refusal) -> Phase
-    ensures { result ≡ Phase.Ended (CareEnd.Refused refusal) }
+fn refused(refusal: Refusal) -> Progress<Ready, CareEnd>
+    ensures { result ≡ Progress.Ended (CareEnd.Refused refusal) }
 {
-    Phase::Ended(CareEnd::Refused(refusal))
+    Progress::Ended(CareEnd::Refused(refusal))
 }
 
 // A shard is caught up to the kept place, whether for the first time or again.
-fn begin(gathering: Gathering) -> Phase
+fn begin(gathering: Gathering) -> Progress<Ready, CareEnd>
     requires { IsRoundOf gathering.shards gathering.place gathering }
     ensures goes { view_of result ≡ ready (held_by gathering None) (catching gathering.next None) }
-    ensures rests { IsBehind (view_of result) }
-    ensures kept { IsPhaseOf gathering.shards gathering.place result }
+    ensures kept { IfNext result (IsReadyOf gathering.shards gathering.place) }
 {
     let catch_up = gathering.catch_up();
-    Phase::Ready(Ready::CatchUp(gathering, catch_up))
+    Progress::Next(Ready::CatchUp(gathering, catch_up))
 }
 
 // The next shard's turn; after the last one the horizon is raised.
-fn go_round(gathering: Gathering) -> Phase
+fn go_round(gathering: Gathering) -> Progress<Ready, CareEnd>
     ensures goes { GoesRound gathering.shards (held_by gathering None) gathering.next (view_of result) }
-    ensures rests { IsBehind (view_of result) }
-    ensures kept { IsPhaseOf gathering.shards gathering.place result }
+    ensures kept { IfNext result (IsReadyOf gathering.shards gathering.place) }
 {
     if gathering.has_next() {
         return begin(gathering);
     }
-    Phase::Ready(Ready::Raise(gathering.all(), false))
+    Progress::Next(Ready::Raise(gathering.all(), false))
 }
 
 // No shard can settle a place above the log, so the flow refuses it itself.
-fn answered(alloc: Global, shards: Shards, place: u64, answer: Result<Heads, Refusal>) -> Phase
+fn answered(
+    alloc: Global,
+    shards: Shards,
+    place: u64,
+    answer: Result<Heads, Refusal>,
+) -> Progress<Ready, CareEnd>
     ensures gives { HeadsGive shards place nothing_raised answer (view_of result) }
-    ensures rests { IsBehind (view_of result) }
-    ensures kept { IsPhaseOf shards place result }
+    ensures kept { IfNext result (IsReadyOf shards place) }
 {
     match answer {
         Ok(heads) => {
@@ -61,7 +64,7 @@ fn answered(alloc: Global, shards: Shards, place: u64, answer: Result<Heads, Ref
                 };
             }
             if place <= heads.length() {
-                return Phase::Ready(Ready::FlushToAsk);
+                return Progress::Next(Ready::FlushToAsk);
             }
             refused(Refusal::Future)
         }
@@ -69,38 +72,35 @@ fn answered(alloc: Global, shards: Shards, place: u64, answer: Result<Heads, Ref
     }
 }
 
-fn caught_up(gathering: Gathering, call: CatchUpCall, reply: Reply) -> Phase
+fn caught_up(gathering: Gathering, call: CatchUpCall, reply: Reply) -> Progress<Ready, CareEnd>
     requires fits { FitsCatchUp call.awaited reply }
     requires round { IsRoundOf gathering.shards gathering.place gathering }
     requires own { (call.held.shard ≡ gathering.next) × (call.held.to ≡ gathering.heads.kept) }
     ensures gives { Gives gathering.shards gathering.place (held_out (Out.CatchUp gathering call)) (catching gathering.next (Some call.awaited)) reply (view_of result) }
-    ensures rests { IsBehind (view_of result) }
-    ensures kept { IsPhaseOf gathering.shards gathering.place result }
+    ensures kept { IfNext result (IsReadyOf gathering.shards gathering.place) }
 {
     match call.give(reply) {
-        Progress::Next(catch_up) => Phase::Ready(Ready::CatchUp(gathering, catch_up)),
-        Progress::There => Phase::Ready(Ready::Flush(gathering)),
-        Progress::Refused(refusal) => refused(refusal),
+        catch_up::Progress::Next(catch_up) => Progress::Next(Ready::CatchUp(gathering, catch_up)),
+        catch_up::Progress::There => Progress::Next(Ready::Flush(gathering)),
+        catch_up::Progress::Refused(refusal) => refused(refusal),
     }
 }
 
 // A flush after which this call comes.
-fn flushed(behind: Ready, answer: Result<(), Refusal>) -> Phase
+fn flushed(behind: Ready, answer: Result<(), Refusal>) -> Progress<Ready, CareEnd>
     ensures gives { FlushGives answer (view_ready behind) (view_of result) }
-    ensures rests { IsBehind (view_of result) }
-    ensures kept { (shards place : ℕ) → IsReadyOf shards place behind → IsPhaseOf shards place result }
+    ensures kept { (shards place : ℕ) → IsReadyOf shards place behind → IfNext result (IsReadyOf shards place) }
 {
     match answer {
-        Ok(()) => Phase::Ready(behind),
+        Ok(()) => Progress::Next(behind),
         Err(refusal) => refused(refusal),
     }
 }
 
-fn settled(mut gathering: Gathering, answer: Result<Settled, Refusal>) -> Phase
+fn settled(mut gathering: Gathering, answer: Result<Settled, Refusal>) -> Progress<Ready, CareEnd>
     requires { IsRoundOf gathering.shards gathering.place gathering }
     ensures gives { SettleGives gathering.shards gathering.place (held_by gathering None) gathering.next answer (view_of result) }
-    ensures rests { IsBehind (view_of result) }
-    ensures kept { IsPhaseOf gathering.shards gathering.place result }
+    ensures kept { IfNext result (IsReadyOf gathering.shards gathering.place) }
 {
     match answer {
         Ok(settled) => {
@@ -121,19 +121,18 @@ fn raised(
     heads: Heads,
     is_again: bool,
     answer: Result<(), NotRaised>,
-) -> Phase
+) -> Progress<Ready, CareEnd>
     requires { IfErr answer (λ back. HaveSettled shards place back.settled.items) }
     ensures gives { RaiseGives (handed_in heads) is_again answer (view_of result) }
-    ensures rests { IsBehind (view_of result) }
-    ensures kept { IsPhaseOf shards place result }
+    ensures kept { IfNext result (IsReadyOf shards place) }
 {
     match answer {
-        Ok(()) => Phase::Ready(Ready::FlushRaised(heads)),
+        Ok(()) => Progress::Next(Ready::FlushRaised(heads)),
         Err(back) => {
             let NotRaised { refusal, settled } = back;
             if refusal == Refusal::Full && !is_again {
                 let gathered = Gathered::again(shards, place, heads, settled);
-                return Phase::Ready(Ready::FlushToRaise(gathered));
+                return Progress::Next(Ready::FlushToRaise(gathered));
             }
             refused(refusal)
         }
@@ -141,12 +140,17 @@ fn raised(
 }
 
 /// What a reply makes of the phase that waits for it.
-pub(crate) fn give(alloc: Global, shards: Shards, place: u64, out: Out, reply: Reply) -> Phase
+pub(crate) fn give(
+    alloc: Global,
+    shards: Shards,
+    place: u64,
+    out: Out,
+    reply: Reply,
+) -> Progress<Ready, CareEnd>
     requires fits { Fits shards place (step_out out) reply }
     requires kept { IsOutOf shards place out }
     ensures gives { Gives shards place (held_out out) (step_out out) reply (view_of result) }
-    ensures rests { IsBehind (view_of result) }
-    ensures kept { IsPhaseOf shards place result }
+    ensures kept { IfNext result (IsReadyOf shards place) }
 {
     match out {
         Out::Ask => match reply {
@@ -181,7 +185,7 @@ pub(crate) fn give(alloc: Global, shards: Shards, place: u64, out: Out, reply: R
             _ => unreachable!(),
         },
         Out::FlushRaised(_heads) => match reply {
-            Reply::Coordinator(CoordinatorReply::Flush(answer)) => Phase::Ended(end_by(answer)),
+            Reply::Coordinator(CoordinatorReply::Flush(answer)) => Progress::Ended(end_by(answer)),
             _ => unreachable!(),
         },
     }

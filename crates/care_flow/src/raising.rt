@@ -1,17 +1,17 @@
 // The horizon is raised.
-ghost use Rattle.std.specs.Prelude.{◌≡◌, ◌<◌, None, Some, is_some, option_map};
+ghost use Rattle.std.specs.Prelude.{◌≡◌, Some, is_some, true};
 ghost use Rattle.calls.specs.Asking.{MayBeMade};
 ghost use Rattle.calls.specs.Names.{name_of as name_of_call};
 ghost use Rattle.names.specs.declared.call_name.CallName.TheVariants as names;
 ghost use Rattle.decisions.specs.Flows.{nothing_raised};
-ghost use Rattle.care_flow.specs.Raising.{Answered, Awaits, NextCall, ask};
-ghost use Rattle.care_flow.specs.Views.{IsBehind, ready};
+ghost use Rattle.care_flow.specs.Raising.{Awaits, Makes, NextCall, ask};
+ghost use Rattle.care_flow.specs.Views.{ready};
 
 use crate::end::CareEnd;
 use crate::raise_calls::next;
-use crate::raise_phase::{Phase, Ready};
+use crate::raise_phase::{Out, Ready};
 use crate::raise_replies::give;
-use calls::{NodeCall, Reply};
+use calls::{NodeCall, Progress, Reply};
 use names::CallName;
 use std::alloc::Global;
 use std::marker::Model;
@@ -24,27 +24,43 @@ pub struct RaiseFlow {
     alloc: Global,
     shards: Shards,
     place: u64,
-    // taken out only within a call
-    phase: Option<Phase>,
+    ready: Ready,
 }
 
 impl Model for RaiseFlow {
+    ghost use Rattle.std.specs.Prelude.{Some};
     ghost use Rattle.care_flow.specs.Raising.{RaiseFlowValue};
 
     ghost Value = { RaiseFlowValue };
 
-    ghost use Rattle.care_flow.specs.RaisePhases.{IsIn, name_in, view_in};
+    ghost use Rattle.care_flow.specs.RaisePhases.{IsReadyOf, name_ready, view_ready};
 
-    ghost view = { λ f. record { shards = f.shards; place = f.place; seen = view_in f.phase; next_name = name_in f.phase } };
+    ghost view = { λ f. record { shards = f.shards; place = f.place; seen = view_ready f.ready; next_name = Some (name_ready f.ready) } };
 
-    ghost invariant = { λ f. IsIn f.shards f.place f.phase };
+    ghost invariant = { λ f. IsReadyOf f.shards f.place f.ready };
 }
 
-// Puts a phase back.
-fn put(place: &mut Option<Phase>, phase: Phase)
-    ensures { place.new ≡ Some phase }
-{
-    *place = Some(phase);
+/// A call of it is out.
+#[derive(Drop)]
+#[must_use]
+pub struct RaiseCall {
+    alloc: Global,
+    shards: Shards,
+    place: u64,
+    out: Out,
+}
+
+impl Model for RaiseCall {
+    ghost use Rattle.std.specs.Prelude.{None};
+    ghost use Rattle.care_flow.specs.Raising.{RaiseFlowValue};
+
+    ghost Value = { RaiseFlowValue };
+
+    ghost use Rattle.care_flow.specs.RaisePhases.{IsOutOf, view_out};
+
+    ghost view = { λ c. record { shards = c.shards; place = c.place; seen = view_out c.out; next_name = None } };
+
+    ghost invariant = { λ c. IsOutOf c.shards c.place c.out };
 }
 
 impl RaiseFlow {
@@ -56,68 +72,70 @@ impl RaiseFlow {
             alloc,
             shards,
             place,
-            phase: Some(Phase::Ready(Ready::Ask)),
+            ready: Ready::Ask,
         }
     }
 
-    /// The name of its next call. None if it has ended, or while a call is out.
-    pub fn next_name(&self) -> Option<CallName>
-        ensures name { result ≡ self.now.next_name }
-        ensures some { is_some result ≡ is_some self.now.seen.next }
+    /// The name of its next call.
+    pub fn next_name(&self) -> CallName
+        ensures name { self.now.next_name ≡ Some result }
+        ensures comes { is_some self.now.seen.next ≡ true }
     {
-        match &self.phase {
-            Some(Phase::Ready(ready)) => Some(ready.name()),
-            _ => None,
+        match &self.ready {
+            Ready::Ask => CallName::Heads,
+            Ready::CatchUp(_, catch_up) => catch_up.next_name(),
+            Ready::Settle(_) => CallName::Settle,
+            Ready::Raise(_, _) => CallName::Raise,
+            Ready::FlushToAsk | Ready::Flush(_) | Ready::FlushToRaise(_) | Ready::FlushRaised(_) =>
+                CallName::Flush,
         }
     }
 
-    /// Its next call, which has to be made, and the reply given. None if it has ended, or while a call is out.
-    pub fn next_call(&mut self) -> Option<NodeCall>
-        ensures same { (self.new.shards ≡ self.old.shards) × (self.new.place ≡ self.old.place) }
-        ensures call { NextCall self.old result self.new }
-        ensures name { (option_map name_of_call result ≡ self.old.next_name) × (self.new.next_name ≡ None) }
-        ensures owed { (call : _) → result ≡ Some call → MayBeMade self.old.shards call }
+    /// Its next call, which has to be made, and what waits for the reply.
+    pub fn next_call(self) -> (NodeCall, RaiseCall)
+        ensures same { (result.1.shards ≡ self.shards) × (result.1.place ≡ self.place) }
+        ensures call { NextCall self (Some result.0) result.1 }
+        ensures name { self.next_name ≡ Some (name_of_call result.0) }
+        ensures comes { is_some self.seen.next ≡ true }
+        ensures owed { MayBeMade self.shards result.0 }
     {
-        let Some(phase) = self.phase.take() else {
-            unreachable!();
+        let RaiseFlow {
+            alloc,
+            shards,
+            place,
+            ready,
+        } = self;
+        let (call, out) = next(shards, place, ready);
+        let out = RaiseCall {
+            alloc,
+            shards,
+            place,
+            out,
         };
-        match phase {
-            Phase::Ready(ready) => {
-                let (call, out) = next(self.shards, self.place, ready);
-                put(&mut self.phase, Phase::Out(out));
-                Some(call)
-            }
-            other => {
-                put(&mut self.phase, other);
-                None
-            }
-        }
+        (call, out)
     }
+}
 
-    /// What the reply to its call makes of it. It takes memory for what the shards have settled once the heads reach the place.
-    pub fn give(&mut self, reply: Reply)
-        requires { Awaits self.old reply }
-        ensures same { (self.new.shards ≡ self.old.shards) × (self.new.place ≡ self.old.place) }
-        ensures gives { Answered self.old reply self.new }
-        ensures rests { IsBehind self.new.seen }
+impl RaiseCall {
+    /// What the reply makes of it. It takes memory for what the shards have settled once the heads reach the place.
+    pub fn give(self, reply: Reply) -> Progress<RaiseFlow, CareEnd>
+        requires { Awaits self reply }
+        ensures { Makes self reply result }
     {
-        let Some(phase) = self.phase.take() else {
-            unreachable!();
-        };
-        let Phase::Out(out) = phase else {
-            unreachable!();
-        };
-        let phase = give(self.alloc, self.shards, self.place, out, reply);
-        put(&mut self.phase, phase);
-    }
-
-    /// How it ended, if it has.
-    pub fn finish(self) -> Option<CareEnd>
-        ensures { result ≡ self.seen.ended }
-    {
-        match self.phase {
-            Some(Phase::Ended(end)) => Some(end),
-            _ => None,
+        let RaiseCall {
+            alloc,
+            shards,
+            place,
+            out,
+        } = self;
+        match give(alloc, shards, place, out, reply) {
+            Progress::Next(ready) => Progress::Next(RaiseFlow {
+                alloc,
+                shards,
+                place,
+                ready,
+            }),
+            Progress::Ended(end) => Progress::Ended(end),
         }
     }
 }

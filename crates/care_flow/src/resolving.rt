@@ -1,20 +1,19 @@
 // What became of each write that is in doubt at a shard.
-ghost use Rattle.std.specs.Prelude.{◌≡◌, ◌<◌, [], ℕ, List, None, Some, is_some, map, option_map};
+ghost use Rattle.std.specs.Prelude.{◌≡◌, ◌<◌, [], ℕ, List, None, Some, is_some, true, map};
 ghost use Rattle.calls.specs.Asking.{MayBeMade};
 ghost use Rattle.calls.specs.Names.{name_of as name_of_call};
 ghost use Rattle.names.specs.declared.call_name.CallName.TheVariants as names;
 ghost use Rattle.catch_up.specs.CatchingUp.{Fits as FitsCatchUp};
-ghost use Rattle.care_flow.specs.declared.end.CareEnd.TheVariants.{Resolved as all_resolved};
 ghost use Rattle.decisions.specs.Flows.{ResolveHolds};
-ghost use Rattle.care_flow.specs.Ends.{id_of, next_of, resolved_value};
-ghost use Rattle.care_flow.specs.Resolving.{Answered, Asks, Awaits, DoubtsGive, DropGives, Fits, Gives, GoesThrough, HasCommitted, InquiryGives, NextCall, catch_up as catching, in_doubt, nothing_found};
-ghost use Rattle.care_flow.specs.ResolvePhases.{IsOutOf, IsPhaseOf, IsReadyOf, held_out, held_ready, holding, name_ready, step_out, step_ready, view_of, view_out};
-ghost use Rattle.care_flow.specs.Views.{IsBehind, ready};
+ghost use Rattle.care_flow.specs.Ends.{next_of, resolved_value};
+ghost use Rattle.care_flow.specs.Resolving.{Asks, Awaits, DoubtsGive, DropGives, Fits, Gives, GoesThrough, HasCommitted, InquiryGives, Makes, NextCall, catch_up as catching, in_doubt, nothing_found};
+ghost use Rattle.care_flow.specs.ResolvePhases.{IsOutOf, IsLeftOf, IsReadyOf, held_out, held_ready, holding, name_ready, step_out, step_ready, view_of, view_out};
+ghost use Rattle.care_flow.specs.Views.{ready};
 
 use crate::end::{CareEnd, Resolved};
 use crate::findings::Findings;
-use calls::{CoordinatorCall, CoordinatorReply, NodeCall, Reply, ShardCall, ShardReply};
-use catch_up::{CatchUp, CatchUpCall, Progress};
+use calls::{CoordinatorCall, CoordinatorReply, NodeCall, Progress, Reply, ShardCall, ShardReply};
+use catch_up::{CatchUp, CatchUpCall};
 use coordinator::Inquiry;
 use decisions::Verdict;
 use names::CallName;
@@ -35,19 +34,6 @@ pub(crate) enum Ready {
     Drop(Verdict),
 }
 
-impl Ready {
-    fn name(&self) -> CallName
-        ensures { result ≡ name_ready self.now }
-    {
-        match self {
-            Ready::AskDoubts => CallName::InDoubt,
-            Ready::Inquire(_) => CallName::Inquire,
-            Ready::CatchUp(catch_up) => catch_up.next_name(),
-            Ready::Drop(_) => CallName::DropWrite,
-        }
-    }
-}
-
 /// The call that is out, with what stays here.
 #[derive(Drop)]
 pub(crate) enum Out {
@@ -55,13 +41,6 @@ pub(crate) enum Out {
     Inquire(WriteId),
     CatchUp(CatchUpCall),
     Drop,
-}
-
-#[derive(Drop)]
-pub(crate) enum Phase {
-    Ready(Ready),
-    Out(Out),
-    Ended(Result<(), Refusal>),
 }
 
 /// Asks the coordinator for each write that is in doubt at a shard: one that is decided is learned there, one that was aborted is dropped, and one that is
@@ -72,27 +51,43 @@ pub struct ResolveFlow {
     alloc: Global,
     shard: u8,
     findings: Findings,
-    // taken out only within a call
-    phase: Option<Phase>,
+    ready: Ready,
 }
 
 impl Model for ResolveFlow {
+    ghost use Rattle.std.specs.Prelude.{Some};
     ghost use Rattle.care_flow.specs.Resolving.{ResolveFlowValue};
 
     ghost Value = { ResolveFlowValue };
 
-    ghost use Rattle.care_flow.specs.ResolvePhases.{IsIn, name_in, view_in};
+    ghost use Rattle.care_flow.specs.ResolvePhases.{IsReadyOf, name_ready, view_ready};
 
-    ghost view = { λ f. record { shard = f.shard; doubts = f.findings.doubts.items; seen = view_in f.findings f.phase; next_name = name_in f.phase } };
+    ghost view = { λ f. record { shard = f.shard; doubts = f.findings.doubts.items; seen = view_ready f.findings f.ready; next_name = Some (name_ready f.ready) } };
 
-    ghost invariant = { λ f. IsIn f.shard f.findings f.phase };
+    ghost invariant = { λ f. IsReadyOf f.shard f.findings f.ready };
 }
 
-// Puts a phase back.
-fn put(place: &mut Option<Phase>, phase: Phase)
-    ensures { place.new ≡ Some phase }
-{
-    *place = Some(phase);
+/// A call of it is out.
+#[derive(Drop)]
+#[must_use]
+pub struct ResolveCall {
+    alloc: Global,
+    shard: u8,
+    findings: Findings,
+    out: Out,
+}
+
+impl Model for ResolveCall {
+    ghost use Rattle.std.specs.Prelude.{None};
+    ghost use Rattle.care_flow.specs.Resolving.{ResolveFlowValue};
+
+    ghost Value = { ResolveFlowValue };
+
+    ghost use Rattle.care_flow.specs.ResolvePhases.{IsOutOf, view_out};
+
+    ghost view = { λ c. record { shard = c.shard; doubts = c.findings.doubts.items; seen = view_out c.findings c.out; next_name = None } };
+
+    ghost invariant = { λ c. IsOutOf c.shard c.findings c.out };
 }
 
 // The call of a phase, and the phase while it is out.
@@ -121,22 +116,21 @@ fn next(shard: u8, findings: &Findings, ready: Ready) -> (NodeCall, Out)
     }
 }
 
-fn refused(refusal: Refusal) -> Phase
-    ensures { result ≡ Phase.Ended (Err refusal) }
+fn refused(refusal: Refusal) -> Progress<Ready, Result<(), Refusal>>
+    ensures { result ≡ Progress.Ended (Err refusal) }
 {
-    Phase::Ended(Err(refusal))
+    Progress::Ended(Err(refusal))
 }
 
 // It continues with the next write.
-fn go_on(shard: u8, findings: &Findings) -> Phase
+fn go_on(shard: u8, findings: &Findings) -> Progress<Ready, Result<(), Refusal>>
     ensures goes { (doubts : List WriteId) (h : ResolveHolds) → doubts ≡ findings.now.doubts.items → h ≡ holding findings.now None None → GoesThrough doubts h (view_of findings.now result) }
-    ensures rests { IsBehind (view_of findings.now result) }
-    ensures kept { IsPhaseOf shard findings.now result }
+    ensures kept { IsLeftOf shard findings.now result }
 {
     let _shard = shard;
     match findings.next() {
-        Some(id) => Phase::Ready(Ready::Inquire(id)),
-        None => Phase::Ended(Ok(())),
+        Some(id) => Progress::Next(Ready::Inquire(id)),
+        None => Progress::Ended(Ok(())),
     }
 }
 
@@ -145,11 +139,10 @@ fn told(
     shard: u8,
     findings: &mut Findings,
     answer: Result<Vec<WriteId>, Refusal>,
-) -> Phase
+) -> Progress<Ready, Result<(), Refusal>>
     requires { findings.old.found.items ≡ [] }
     ensures gives { DoubtsGive (holding findings.old None None) answer findings.new.doubts.items (view_of findings.new result) }
-    ensures rests { IsBehind (view_of findings.new result) }
-    ensures kept { IsPhaseOf shard findings.new result }
+    ensures kept { IsLeftOf shard findings.new result }
 {
     match answer {
         Ok(doubts) => match Findings::new(alloc, doubts) {
@@ -168,21 +161,20 @@ fn inquired(
     findings: &mut Findings,
     id: WriteId,
     answer: Result<Inquiry, Refusal>,
-) -> Phase
+) -> Progress<Ready, Result<(), Refusal>>
     requires { next_of findings.old.doubts.items findings.old.found.items ≡ Some id }
     ensures doubts { findings.new.doubts ≡ findings.old.doubts }
     ensures gives { InquiryGives findings.old.doubts.items (holding findings.old None None) id answer (view_of findings.new result) }
-    ensures rests { IsBehind (view_of findings.new result) }
-    ensures kept { IsPhaseOf shard findings.new result }
+    ensures kept { IsLeftOf shard findings.new result }
 {
     match answer {
         Ok(Inquiry::Commit(place)) => {
             findings.note(Resolved::Committed(id, place));
-            Phase::Ready(Ready::CatchUp(CatchUp::new(shard, place)))
+            Progress::Next(Ready::CatchUp(CatchUp::new(shard, place)))
         }
         Ok(Inquiry::Abort(verdict)) => {
             findings.note(Resolved::Aborted(id));
-            Phase::Ready(Ready::Drop(verdict))
+            Progress::Next(Ready::Drop(verdict))
         }
         // Whoever decides it still needs its prepare.
         Ok(Inquiry::Undecided) => {
@@ -193,25 +185,32 @@ fn inquired(
     }
 }
 
-fn caught_up(shard: u8, findings: &Findings, call: CatchUpCall, reply: Reply) -> Phase
+fn caught_up(
+    shard: u8,
+    findings: &Findings,
+    call: CatchUpCall,
+    reply: Reply,
+) -> Progress<Ready, Result<(), Refusal>>
     requires fits { FitsCatchUp call.awaited reply }
     requires shard { call.held.shard ≡ shard }
     requires committed { HasCommitted (map resolved_value findings.now.found.items) call.held.to }
     ensures gives { Gives shard findings.now.doubts.items (held_out findings.now (Out.CatchUp call)) (catching call.held.to (Some call.awaited)) reply findings.now.doubts.items (view_of findings.now result) }
-    ensures rests { IsBehind (view_of findings.now result) }
-    ensures kept { IsPhaseOf shard findings.now result }
+    ensures kept { IsLeftOf shard findings.now result }
 {
     match call.give(reply) {
-        Progress::Next(catch_up) => Phase::Ready(Ready::CatchUp(catch_up)),
-        Progress::There => go_on(shard, findings),
-        Progress::Refused(refusal) => refused(refusal),
+        catch_up::Progress::Next(catch_up) => Progress::Next(Ready::CatchUp(catch_up)),
+        catch_up::Progress::There => go_on(shard, findings),
+        catch_up::Progress::Refused(refusal) => refused(refusal),
     }
 }
 
-fn dropped(shard: u8, findings: &Findings, answer: Result<(), Refusal>) -> Phase
+fn dropped(
+    shard: u8,
+    findings: &Findings,
+    answer: Result<(), Refusal>,
+) -> Progress<Ready, Result<(), Refusal>>
     ensures gives { DropGives findings.now.doubts.items (holding findings.now None None) answer (view_of findings.now result) }
-    ensures rests { IsBehind (view_of findings.now result) }
-    ensures kept { IsPhaseOf shard findings.now result }
+    ensures kept { IsLeftOf shard findings.now result }
 {
     match answer {
         Ok(()) => go_on(shard, findings),
@@ -219,12 +218,17 @@ fn dropped(shard: u8, findings: &Findings, answer: Result<(), Refusal>) -> Phase
     }
 }
 
-fn give(alloc: Global, shard: u8, findings: &mut Findings, out: Out, reply: Reply) -> Phase
+fn give(
+    alloc: Global,
+    shard: u8,
+    findings: &mut Findings,
+    out: Out,
+    reply: Reply,
+) -> Progress<Ready, Result<(), Refusal>>
     requires fits { Fits (step_out out) reply }
     requires kept { IsOutOf shard findings.old out }
     ensures gives { Gives shard findings.old.doubts.items (held_out findings.old out) (step_out out) reply findings.new.doubts.items (view_of findings.new result) }
-    ensures rests { IsBehind (view_of findings.new result) }
-    ensures kept { IsPhaseOf shard findings.new result }
+    ensures kept { IsLeftOf shard findings.new result }
 {
     match out {
         Out::AskDoubts => match reply {
@@ -254,71 +258,70 @@ impl ResolveFlow {
             alloc,
             shard,
             findings: Findings::none(alloc),
-            phase: Some(Phase::Ready(Ready::AskDoubts)),
+            ready: Ready::AskDoubts,
         }
     }
 
-    /// The name of its next call. None if it has ended, or while a call is out.
-    pub fn next_name(&self) -> Option<CallName>
-        ensures name { result ≡ self.now.next_name }
-        ensures some { is_some result ≡ is_some self.now.seen.next }
+    /// The name of its next call.
+    pub fn next_name(&self) -> CallName
+        ensures name { self.now.next_name ≡ Some result }
+        ensures comes { is_some self.now.seen.next ≡ true }
     {
-        match &self.phase {
-            Some(Phase::Ready(ready)) => Some(ready.name()),
-            _ => None,
+        match &self.ready {
+            Ready::AskDoubts => CallName::InDoubt,
+            Ready::Inquire(_) => CallName::Inquire,
+            Ready::CatchUp(catch_up) => catch_up.next_name(),
+            Ready::Drop(_) => CallName::DropWrite,
         }
     }
 
-    /// Its next call, which has to be made, and the reply given. None if it has ended, or while a call is out.
-    pub fn next_call(&mut self) -> Option<NodeCall>
-        ensures shard { self.new.shard ≡ self.old.shard }
-        ensures doubts { self.new.doubts ≡ self.old.doubts }
-        ensures call { NextCall self.old result self.new }
-        ensures name { (option_map name_of_call result ≡ self.old.next_name) × (self.new.next_name ≡ None) }
-        ensures owed { (shards : ℕ) (call : _) → self.old.shard < shards → result ≡ Some call → MayBeMade shards call }
+    /// Its next call, which has to be made, and what waits for the reply.
+    pub fn next_call(self) -> (NodeCall, ResolveCall)
+        ensures same { (result.1.shard ≡ self.shard) × (result.1.doubts ≡ self.doubts) }
+        ensures call { NextCall self (Some result.0) result.1 }
+        ensures name { self.next_name ≡ Some (name_of_call result.0) }
+        ensures comes { is_some self.seen.next ≡ true }
+        ensures owed { (shards : ℕ) → self.shard < shards → MayBeMade shards result.0 }
     {
-        let Some(phase) = self.phase.take() else {
-            unreachable!();
+        let ResolveFlow {
+            alloc,
+            shard,
+            findings,
+            ready,
+        } = self;
+        let (call, out) = next(shard, &findings, ready);
+        let out = ResolveCall {
+            alloc,
+            shard,
+            findings,
+            out,
         };
-        match phase {
-            Phase::Ready(ready) => {
-                let (call, out) = next(self.shard, &self.findings, ready);
-                put(&mut self.phase, Phase::Out(out));
-                Some(call)
-            }
-            other => {
-                put(&mut self.phase, other);
-                None
-            }
-        }
+        (call, out)
     }
+}
 
-    /// What the reply to its call makes of it. It takes memory for what it finds once it knows how many writes there are.
-    pub fn give(&mut self, reply: Reply)
-        requires { Awaits self.old reply }
-        ensures shard { self.new.shard ≡ self.old.shard }
-        ensures gives { Answered self.old reply self.new }
-        ensures rests { IsBehind self.new.seen }
+impl ResolveCall {
+    /// What the reply makes of it. It takes memory for what it finds once it knows how many writes there are. At its end it has a finding for each write
+    /// that was in doubt, in their order.
+    pub fn give(self, reply: Reply) -> Progress<ResolveFlow, CareEnd>
+        requires { Awaits self reply }
+        ensures { Makes self reply result }
     {
-        let Some(phase) = self.phase.take() else {
-            unreachable!();
-        };
-        let Phase::Out(out) = phase else {
-            unreachable!();
-        };
-        let phase = give(self.alloc, self.shard, &mut self.findings, out, reply);
-        put(&mut self.phase, phase);
-    }
-
-    /// How it ended, if it has. It has a finding for each write that was in doubt, in their order.
-    pub fn finish(self) -> Option<CareEnd>
-        ensures end { result ≡ self.seen.ended }
-        ensures each { (all : _) → result ≡ Some (all_resolved all) → map id_of all.items ≡ self.doubts }
-    {
-        match self.phase {
-            Some(Phase::Ended(Ok(()))) => Some(CareEnd::Resolved(self.findings.found)),
-            Some(Phase::Ended(Err(refusal))) => Some(CareEnd::Refused(refusal)),
-            _ => None,
+        let ResolveCall {
+            alloc,
+            shard,
+            mut findings,
+            out,
+        } = self;
+        match give(alloc, shard, &mut findings, out, reply) {
+            Progress::Next(ready) => Progress::Next(ResolveFlow {
+                alloc,
+                shard,
+                findings,
+                ready,
+            }),
+            Progress::Ended(Ok(())) => Progress::Ended(CareEnd::Resolved(findings.found)),
+            Progress::Ended(Err(refusal)) => Progress::Ended(CareEnd::Refused(refusal)),
         }
     }
 }

@@ -7,3 +7,4 @@ pub mod Openings
 pub mod Stepping
 pub mod Counting
 pub mod Cancels
+pub mod Leaving

@@ -50,11 +50,11 @@ begun_for shards (requests.Write write) = Write (record {
   flow = record { shards = shards; seen = record { write = Some write; holds = nothing_begun; caught = None; flushed = false; awaited = None; ended = None }; next_name = Some names.Begin };
   is_cancelled = false;
 })
-begun_for shards (requests.Read fresh sets) = Read (record { shards = shards; fresh = fresh; sets = sets.items; seen = read_views.at_rest read_views.heads nothing_read; next_name = Some names.Heads })
+begun_for shards (requests.Read fresh sets) = Read (record { shards = shards; fresh = fresh; sets = sets.items; next = read_views.heads; holds = nothing_read; next_name = names.Heads })
 begun_for shards (requests.Check fresh tuple) =
-    Check (record { shards = shards; fresh = fresh; user = tuple.user; seen = check_views.at_rest check_views.heads (check_views.begins_at (userset_of tuple)); next_name = Some names.Heads })
+    Check (record { shards = shards; fresh = fresh; user = tuple.user; next = check_views.heads; holds = check_views.begins_at (userset_of tuple); next_name = names.Heads })
 begun_for shards (requests.Watch cursor limit names) =
-    Watch (record { cursor = cursor; limit = limit; namespaces = names.items; seen = watch_views.at_rest watch_views.heads no_heads })
+    Watch (record { cursor = cursor; limit = limit; namespaces = names.items; next = watch_views.heads; holds = no_heads })
 
 -- the flow of a care before its first call
 abbrev pub caring_for : ℕ → Care → Flow

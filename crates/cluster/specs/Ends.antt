@@ -54,7 +54,7 @@ IfEnded P (Some end) told = P end told
 -- This is reported of it, by how it ended; a resolution reports on each write that was in doubt, in their order.
 abbrev pub EndsWith : Flow → Option What → Type 0
 EndsWith (Write w) told = IfEnded TellsWrite w.flow.seen.ended told
-EndsWith (Read v) told = IfEnded TellsRead v.seen.ended told
-EndsWith (Check v) told = IfEnded TellsCheck v.seen.ended told
-EndsWith (Watch v) told = IfEnded TellsWatch v.seen.ended told
+EndsWith (Read v) told = ⊥
+EndsWith (Check v) told = ⊥
+EndsWith (Watch v) told = ⊥
 EndsWith (Care v) told = IfEnded TellsCare (end_of v) told × TellsOfEach v (end_of v)

@@ -15,9 +15,9 @@ use Rattle.cluster.specs.declared.flow.Writing.{Writing}
 -- The name of its next call; none if it has ended, or while a call is out.
 abbrev pub next_name_of : Flow → Option CallName
 next_name_of (Write w) = w.flow.next_name
-next_name_of (Read v) = v.next_name
-next_name_of (Check v) = v.next_name
-next_name_of (Watch v) = watch_views.next_name_of v.seen
+next_name_of (Read v) = Some v.next_name
+next_name_of (Check v) = Some v.next_name
+next_name_of (Watch v) = Some (watch_views.name_of v.next)
 next_name_of (Care v) = cares.next_name_of v
 
 -- nothing more is reported of it
@@ -45,8 +45,8 @@ pub record NamesNext {A E : Type 0} (name : Option CallName) (out : Option A) (e
 -- what is seen of it gives the name of its next call
 abbrev pub IsNamed : Flow → Type 0
 IsNamed (Write w) = NamesNext w.flow.next_name w.flow.seen.awaited w.flow.seen.ended
-IsNamed (Read v) = NamesNext v.next_name v.seen.awaited v.seen.ended
-IsNamed (Check v) = NamesNext v.next_name v.seen.awaited v.seen.ended
+IsNamed (Read v) = Unit {0}
+IsNamed (Check v) = Unit {0}
 IsNamed (Watch v) = Unit {0}
 IsNamed (Care v) = is_some (cares.next_name_of v) ≡ cares.has_next v
 

@@ -4,22 +4,31 @@ use Rattle.tuples.specs.Limits.{max_flows}
 use Rattle.refusal.specs.declared.refusal.Refusal.{Refusal}
 use Rattle.refusal.specs.declared.refusal.Refusal.TheVariants.{Full}
 use Rattle.device.specs.Device.{State}
+use Rattle.answer_flow.specs.ReadViews.{ReadFlowValue, ending_of as read_ending}
+use Rattle.answer_flow.specs.CheckViews.{CheckFlowValue, ending_of as check_ending}
+use Rattle.answer_flow.specs.WatchViews.{WatchFlowValue, ending_of as watch_ending}
+use Rattle.answer_flow.specs.declared.check_phase.CheckDone.{CheckDone}
+use Rattle.answer_flow.specs.declared.read_phase.ReadDone.{ReadDone}
+use Rattle.answer_flow.specs.declared.watch_phase.WatchEnd.{WatchEnd}
 use Rattle.calls.specs.Opening.{refusal_of}
 use Rattle.calls.specs.Views.{NodeView, devices_of}
+use Rattle.calls.specs.declared.progress.Progress.{Progress}
+use Rattle.calls.specs.declared.progress.Progress.TheVariants as made
 use Rattle.names.specs.declared.node_name.NodeName.{NodeName}
 use Rattle.names.specs.declared.call_name.CallName.{CallName}
 use Rattle.cluster.specs.declared.event.Event.{Event}
 use Rattle.cluster.specs.declared.event.What.{What}
 use Rattle.cluster.specs.declared.event.What.TheVariants.{Began, Next, Up, Refused}
 use Rattle.cluster.specs.declared.flow.Flow.{Flow}
+use Rattle.cluster.specs.declared.flow.Flow.TheVariants.{Read, Check, Watch}
 use Rattle.cluster.specs.declared.step.Step.{Step}
 use Rattle.cluster.specs.declared.step.Step.TheVariants.{Start, Turn, Cancel, Care as care_for, Restart}
 use Rattle.cluster.specs.Begun.{IsInLimits, MayCare, begun_for, caring_for}
-use Rattle.cluster.specs.Ends.{EndsWith}
+use Rattle.cluster.specs.Ends.{EndsWith, TellsCheck, TellsRead, TellsWatch}
 use Rattle.cluster.specs.Flows.{IsNamed, is_cancelled, next_name_of}
 use Rattle.cluster.specs.Cancels.{Cancels}
 use Rattle.cluster.specs.Nodes.{Reopened}
-use Rattle.cluster.specs.Turns.{Turns}
+use Rattle.cluster.specs.Turns.{Turns, TurnsCheck, TurnsRead, TurnsWatch}
 use Rattle.cluster.specs.Worlds.{Puts, WorldView, flow_at, flow_count, index_of, node_at}
 
 -- nothing is reported of a flow that was cancelled
@@ -68,6 +77,29 @@ pub record Leaves (old : List (Option Flow)) (slot : ℕ) (later : Flow) (told :
   pub named : IsNamed later
   pub leaves : MatchOption (next_name_of later) (HasGone old slot later told new) (λ name. GoesOn old slot later name told new)
 
+-- It makes no more calls, and was not cancelled: this is reported.
+pub record HasEnded (later : Flow) (told : Option What) : Type 0 where
+  pub named : IsNamed later
+  pub unnamed : next_name_of later ≡ None
+  pub ends : EndsWith later told
+  pub heard : is_cancelled later ≡ false
+
+-- what its turn has left of a flow: itself, or what is reported of its end
+abbrev pub IsLeft : Flow → Progress Flow (Option What) → Type 0
+IsLeft later (made.Next flow) = later ≡ flow
+IsLeft later (made.Ended told) = HasEnded later told
+
+-- what a turn has made of a flow of a kind: it waits for its next turn, or this is reported of its end
+abbrev pub IsMade : {V E : Type 0} → (V → Flow) → (E → Option What → Type 0) → Progress V E → Progress Flow (Option What) → Type 0
+IsMade kind tells (made.Next later) (made.Next flow) = flow ≡ kind later
+IsMade kind tells (made.Ended end) (made.Ended told) = tells end told
+IsMade kind tells turned after = ⊥
+
+-- what is left in a slot then
+abbrev pub LeavesSlot : List (Option Flow) → ℕ → Progress Flow (Option What) → Option What → List (Option Flow) → Type 0
+LeavesSlot old slot (made.Next later) told new = Leaves old slot later told new
+LeavesSlot old slot (made.Ended end) told new = Puts old slot None new × (told ≡ end)
+
 -- the flow in this slot is cancelled, and is left in it or not
 pub record SlotCancels (old : List (Option Flow)) (slot : ℕ) (flow : Flow) (new : List (Option Flow)) : Type 0 where
   pub later : Option Flow
@@ -75,11 +107,18 @@ pub record SlotCancels (old : List (Option Flow)) (slot : ℕ) (flow : Flow) (ne
   pub puts : Puts old slot later new
 
 module _ {D : Type 0} (state : D → State) (honest : D → Type 0) (moment : D → ℕ) (left_since : D → ℕ → List ℕ → Type 0) where
+  -- what a turn makes of a flow, by its kind
+  abbrev pub Makes : ℕ → List (NodeView D) → Flow → List (NodeView D) → Progress Flow (Option What) → Type 0
+  Makes shards old (Read v) new after = (turned : Progress ReadFlowValue ReadDone) × TurnsRead state honest moment left_since shards old v new turned × IsMade Read (λ done. TellsRead (read_ending done.end)) turned after
+  Makes shards old (Check v) new after = (turned : Progress CheckFlowValue CheckDone) × TurnsCheck state honest moment left_since shards old v new turned × IsMade Check (λ done. TellsCheck (check_ending done.end)) turned after
+  Makes shards old (Watch v) new after = (turned : Progress WatchFlowValue WatchEnd) × TurnsWatch state honest moment left_since shards old v new turned × IsMade Watch (λ end. TellsWatch (watch_ending end)) turned after
+  Makes shards old flow new after = (later : Flow) × Turns state honest moment left_since shards old flow new later × IsLeft later after
+
   -- the flow in this slot makes its turn, and is left in it or not
   pub record SlotTurns (shards : ℕ) (old : List (NodeView D)) (old_flows : List (Option Flow)) (slot : ℕ) (flow : Flow) (told : Option What) (new : List (NodeView D)) (new_flows : List (Option Flow)) : Type 0 where
-    pub later : Flow
-    pub turns : Turns state honest moment left_since shards old flow new later
-    pub leaves : Leaves old_flows slot later told new_flows
+    pub after : Progress Flow (Option What)
+    pub turns : Makes shards old flow new after
+    pub leaves : LeavesSlot old_flows slot after told new_flows
 
   -- nothing is reported, and nothing changes
   abbrev pub IsIdle : WorldView D → Option What → WorldView D → Type 0

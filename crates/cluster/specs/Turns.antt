@@ -5,23 +5,27 @@ use Rattle.answer_flow.specs.ReadViews.{ReadFlowValue}
 use Rattle.answer_flow.specs.CheckViews.{CheckFlowValue}
 use Rattle.answer_flow.specs.WatchViews.{WatchFlowValue}
 use Rattle.answer_flow.specs.Running.{AsksCheck, AsksRead, AsksWatch, GivesCheck, GivesRead, GivesWatch}
+use Rattle.answer_flow.specs.declared.check_phase.CheckDone.{CheckDone}
+use Rattle.answer_flow.specs.declared.read_phase.ReadDone.{ReadDone}
+use Rattle.answer_flow.specs.declared.watch_phase.WatchEnd.{WatchEnd}
 use Rattle.care_flow.specs.Cares.{AsksCare, GivesCare}
 use Rattle.care_flow.specs.declared.care.CareFlow.{CareFlow}
 use Rattle.calls.specs.Fitting.{FitsItsTypes, IsWhole}
 use Rattle.calls.specs.Views.{NodeView}
 use Rattle.calls.specs.declared.call.NodeCall.{NodeCall}
+use Rattle.calls.specs.declared.progress.Progress.{Progress}
 use Rattle.calls.specs.declared.reply.Reply.{Reply}
 use Rattle.cluster.specs.declared.flow.Flow.{Flow}
-use Rattle.cluster.specs.declared.flow.Flow.TheVariants.{Write, Read, Check, Watch, Care}
+use Rattle.cluster.specs.declared.flow.Flow.TheVariants.{Write, Care}
 use Rattle.cluster.specs.declared.flow.Writing.{Writing}
 use Rattle.cluster.specs.Flows.{AsksWrite, GivesWrite}
 use Rattle.cluster.specs.Nodes.{Called}
 
 module _ {D : Type 0} (state : D → State) (honest : D → Type 0) (moment : D → ℕ) (left_since : D → ℕ → List ℕ → Type 0) where
   -- The flow asks for one call, which fits its types, the node that it names answers it, and the flow is given the reply: by how a kind of flow asks, and what a reply makes of it.
-  pub record TurnsBy {F : Type 0} (asks : F → NodeCall → F → Type 0) (gives : F → Reply → F → Type 0) (shards : ℕ) (old : List (NodeView D)) (flow : F) (new : List (NodeView D)) (later : F) : Type 0 where
+  pub record TurnsBy {F O L : Type 0} (asks : F → NodeCall → O → Type 0) (gives : O → Reply → L → Type 0) (shards : ℕ) (old : List (NodeView D)) (flow : F) (new : List (NodeView D)) (later : L) : Type 0 where
     pub call : NodeCall
-    pub out : F
+    pub out : O
     pub reply : Reply
     pub asked : asks flow call out
     pub fits : FitsItsTypes call
@@ -32,23 +36,20 @@ module _ {D : Type 0} (state : D → State) (honest : D → Type 0) (moment : D 
   abbrev pub TurnsWrite : ℕ → List (NodeView D) → Writing → List (NodeView D) → Writing → Type 0
   TurnsWrite = TurnsBy AsksWrite GivesWrite
 
-  abbrev pub TurnsRead : ℕ → List (NodeView D) → ReadFlowValue → List (NodeView D) → ReadFlowValue → Type 0
+  abbrev pub TurnsRead : ℕ → List (NodeView D) → ReadFlowValue → List (NodeView D) → Progress ReadFlowValue ReadDone → Type 0
   TurnsRead = TurnsBy AsksRead GivesRead
 
-  abbrev pub TurnsCheck : ℕ → List (NodeView D) → CheckFlowValue → List (NodeView D) → CheckFlowValue → Type 0
+  abbrev pub TurnsCheck : ℕ → List (NodeView D) → CheckFlowValue → List (NodeView D) → Progress CheckFlowValue CheckDone → Type 0
   TurnsCheck = TurnsBy AsksCheck GivesCheck
 
-  abbrev pub TurnsWatch : ℕ → List (NodeView D) → WatchFlowValue → List (NodeView D) → WatchFlowValue → Type 0
+  abbrev pub TurnsWatch : ℕ → List (NodeView D) → WatchFlowValue → List (NodeView D) → Progress WatchFlowValue WatchEnd → Type 0
   TurnsWatch = TurnsBy AsksWatch GivesWatch
 
   abbrev pub TurnsCare : ℕ → List (NodeView D) → CareFlow → List (NodeView D) → CareFlow → Type 0
   TurnsCare = TurnsBy AsksCare GivesCare
 
-  -- A flow's turn, by its kind, which stays.
+  -- The turn of a write or a care, which stays one.
   abbrev pub Turns : ℕ → List (NodeView D) → Flow → List (NodeView D) → Flow → Type 0
   Turns shards old (Write flow) new (Write later) = TurnsWrite shards old flow new later
-  Turns shards old (Read flow) new (Read later) = TurnsRead shards old flow new later
-  Turns shards old (Check flow) new (Check later) = TurnsCheck shards old flow new later
-  Turns shards old (Watch flow) new (Watch later) = TurnsWatch shards old flow new later
   Turns shards old (Care flow) new (Care later) = TurnsCare shards old flow new later
   Turns shards old flow new later = ⊥

@@ -19,6 +19,6 @@ pub(crate) fn cancel(flows: &mut Slab<Flow>, slot: usize)
         // The slot that was freed last is taken next.
         let _slot = flows.insert_reserved(flow);
     } else {
-        let _ = flow.finish();
+        drop(flow);
     }
 }

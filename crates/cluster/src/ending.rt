@@ -1,14 +1,14 @@
 // What is reported of a flow that has ended.
-ghost use Rattle.std.specs.Prelude.{Some};
+ghost use Rattle.std.specs.Prelude.{◌≡◌, Some, None};
 ghost use Rattle.answer_flow.specs.ReadViews.{ending_of as read_ending};
 ghost use Rattle.answer_flow.specs.CheckViews.{ending_of as check_ending};
 ghost use Rattle.answer_flow.specs.WatchViews.{ending_of as watch_ending};
-ghost use Rattle.care_flow.specs.Cares.{TellsOfEach, end_of};
 ghost use Rattle.cluster.specs.Ends.{EndsWith, IfEnded, TellsCare, TellsCheck, TellsRead, TellsWatch, TellsWrite};
+ghost use Rattle.cluster.specs.Flows.{next_name_of};
 
 use crate::{Answer, Flow, What, Writing};
-use answer_flow::{CheckEnd, CheckFlow, ReadEnd, ReadFlow, WatchEnd, WatchFlow};
-use care_flow::{CareEnd, CareFlow};
+use answer_flow::{CheckEnd, ReadEnd, WatchEnd};
+use care_flow::CareEnd;
 use commit_flow::WriteEnd;
 
 fn told_of_write(end: WriteEnd) -> Option<What>
@@ -21,7 +21,8 @@ fn told_of_write(end: WriteEnd) -> Option<What>
     }
 }
 
-fn told_of_read(end: ReadEnd) -> What
+/// What is reported of a read that has ended.
+pub(crate) fn told_of_read(end: ReadEnd) -> What
     ensures { TellsRead (read_ending end) (Some result) }
 {
     match end {
@@ -30,7 +31,8 @@ fn told_of_read(end: ReadEnd) -> What
     }
 }
 
-fn told_of_check(end: CheckEnd) -> What
+/// What is reported of a check that has ended.
+pub(crate) fn told_of_check(end: CheckEnd) -> What
     ensures { TellsCheck (check_ending end) (Some result) }
 {
     match end {
@@ -39,7 +41,8 @@ fn told_of_check(end: CheckEnd) -> What
     }
 }
 
-fn told_of_watch(end: WatchEnd) -> What
+/// What is reported of a watch that has ended.
+pub(crate) fn told_of_watch(end: WatchEnd) -> What
     ensures { TellsWatch (watch_ending end) (Some result) }
 {
     match end {
@@ -48,7 +51,8 @@ fn told_of_watch(end: WatchEnd) -> What
     }
 }
 
-fn told_of_care(end: CareEnd) -> What
+/// What is reported of a care that has ended.
+pub(crate) fn told_of_care(end: CareEnd) -> What
     ensures { TellsCare end (Some result) }
 {
     match end {
@@ -64,42 +68,19 @@ fn end_write(writing: Writing) -> Option<What>
     told_of_write(writing.finish()?)
 }
 
-fn end_read(flow: ReadFlow) -> Option<What>
-    ensures { IfEnded TellsRead flow.seen.ended result }
-{
-    Some(told_of_read(flow.finish()?))
-}
-
-fn end_check(flow: CheckFlow) -> Option<What>
-    ensures { IfEnded TellsCheck flow.seen.ended result }
-{
-    Some(told_of_check(flow.finish()?))
-}
-
-fn end_watch(flow: WatchFlow) -> Option<What>
-    ensures { IfEnded TellsWatch flow.seen.ended result }
-{
-    Some(told_of_watch(flow.finish()?))
-}
-
-fn end_care(flow: CareFlow) -> Option<What>
-    ensures tells { IfEnded TellsCare (end_of flow) result }
-    ensures each { TellsOfEach flow (end_of flow) }
-{
-    Some(told_of_care(flow.finish()?))
-}
-
 impl Flow {
-    /// What is reported of it, if it has ended; spends what it holds.
+    /// What is reported of it, if it has ended; spends what it holds. Only a write has such an end: each other flow makes a call next.
     pub(crate) fn finish(self) -> Option<What>
+        requires { next_name_of self ≡ None }
         ensures { EndsWith self result }
     {
         match self {
             Flow::Write(writing) => end_write(writing),
-            Flow::Read(flow) => end_read(flow),
-            Flow::Check(flow) => end_check(flow),
-            Flow::Watch(flow) => end_watch(flow),
-            Flow::Care(flow) => end_care(flow),
+            Flow::Read(_) | Flow::Check(_) | Flow::Watch(_) => unreachable!(),
+            Flow::Care(flow) => {
+                let _name = calls::Flow::next_name(&flow);
+                unreachable!()
+            }
         }
     }
 }

@@ -66,10 +66,10 @@ impl Flow {
     {
         match self {
             Flow::Write(writing) => writing.flow.next_name(),
-            Flow::Read(flow) => flow.next_name(),
-            Flow::Check(flow) => flow.next_name(),
-            Flow::Watch(flow) => flow.next_name(),
-            Flow::Care(flow) => flow.next_name(),
+            Flow::Read(flow) => Some(calls::Flow::next_name(flow)),
+            Flow::Check(flow) => Some(calls::Flow::next_name(flow)),
+            Flow::Watch(flow) => Some(calls::Flow::next_name(flow)),
+            Flow::Care(flow) => Some(calls::Flow::next_name(flow)),
         }
     }
 

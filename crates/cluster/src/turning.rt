@@ -8,7 +8,7 @@ ghost use Rattle.cluster.specs.Worlds.{flow_at};
 
 use crate::calling::turn_flow;
 use crate::{Flow, What};
-use calls::{Node, Told};
+use calls::{Node, Progress, Told};
 use device::Device;
 use slab::Slab;
 use tuples::Shards;
@@ -55,7 +55,9 @@ pub(crate) fn turn<D: Device>(
         (λ flow. SlotTurns D.state D.honest D.moment D.left_since shards nodes.old flows.old.slots slot flow result nodes.new flows.new.slots) }
     ensures kept { AreFlows shards flows.new.slots }
 {
-    let mut flow = flows.try_remove(slot)?;
-    turn_flow(shards, nodes, told, &mut flow);
-    leave(shards, flows, flow)
+    let flow = flows.try_remove(slot)?;
+    match turn_flow(shards, nodes, told, flow) {
+        Progress::Next(flow) => leave(shards, flows, flow),
+        Progress::Ended(told) => told,
+    }
 }

@@ -1,4 +1,4 @@
--- What flies, what becomes of it, and what stays behind.
+-- What flies, what becomes of it, and what stays here.
 use Rattle.std.specs.Prelude.{◌≡◌, ◌⊎◌, ◌+◌, ◌<◌, ◌^◌, ◌++◌, ℕ, Bool, true, false, List, length, Option, Some, None, slice_get}
 use mathlib.Core.List.{IsPrefix}
 use Rattle.away.specs.Aways.{lent_honest, lent_state}
@@ -101,7 +101,7 @@ module _ {D : Type 0} (state : D → State) (honest : D → Type 0) where
     pub up : journal.is_down ≡ false
     pub told : IsToldBy (launch_of journal flying) flying
 
-  -- What comes back of a launch: where the journal is up all that flew is durable, and whatever a stop leaves has the records with it or without.
+  -- What comes back of a launch: if the journal is up, all that flew is durable, and whatever a stop leaves has the records with it or without.
   pub record HasFlown (x : Launch) (flown : View D) (flying : Flying) : Type 0 where
     pub honest_a : honest flown.a
     pub honest_b : honest flown.b

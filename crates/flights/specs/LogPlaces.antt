@@ -64,7 +64,7 @@ LogTellsUp place reply = Unit {0}
 abbrev pub TellsWriters : List Entry → List Attempt → List Entry → NodeCall → Reply → Type 0
 TellsWriters before tried seen call reply = (asked : WriteValue) (above : ℕ) → above ≤ length before → TellsWriter (IsTried tried) asked above seen call reply
 
--- the coordinator is there; where its devices are out, it stays as they left it, and has perhaps staged more
+-- the coordinator is there; if its devices are out, it stays as they left it, and may have staged more
 abbrev pub IsLogBerthed : {D : Type 0} → List Launch → Option (Berth (LogSide D) (LogSide (Away D))) → Type 0
 IsLogBerthed launches (Some (Here side room)) = Unit {0}
 IsLogBerthed launches (Some (Out side launch)) = IsLogOutOn launches side launch
@@ -76,7 +76,7 @@ module _ {D : Type 0} (state : D → State) (honest : D → Type 0) where
   HasLogLaunched (here old) flight (out new launch) = LendsIn state honest old.node new.node flight.journal flight.flying × HasSameList old new × (launch ≡ flight.launch)
   HasLogLaunched old flight new = ⊥
 
-  -- Its devices are back from this flight: what flew is staged no more, what was staged since is staged still, and it is up where both were. What is durable then
+  -- Its devices are back from this flight: what flew is staged no more, what was staged since is staged still, and it is up if both were. What is durable then
   -- has joined the list.
   abbrev pub HasLogLanded : LogPlaceView D → FlightView D → LogPlaceView D → Type 0
   HasLogLanded (out old launch) flown (here new) = LandsIn state honest old.node flown.journal flown.flying new.node × HasLaterList old new × (launch ≡ flown.launch)

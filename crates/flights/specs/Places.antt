@@ -91,7 +91,7 @@ module _ {D : Type 0} (state : D → State) (honest : D → Type 0) where
   HasLaunched (here old) flight (out new launch) = LendsIn state honest old.node new.node flight.journal flight.flying × (new.number ≡ old.number) × (new.pass ≡ old.pass) × (launch ≡ flight.launch)
   HasLaunched old flight new = ⊥
 
-  -- Its devices are back from this flight: what flew is staged no more, what was staged since is staged still, and it is up where both were.
+  -- Its devices are back from this flight: what flew is staged no more, what was staged since is staged still, and it is up if both were.
   abbrev pub HasLanded : PlaceView D → FlightView D → PlaceView D → Type 0
   HasLanded (out old launch) flown (here new) = LandsIn state honest old.node flown.journal flown.flying new.node × (new.number ≡ old.number) × (new.pass ≡ old.pass) × (launch ≡ flown.launch)
   HasLanded old flown new = ⊥

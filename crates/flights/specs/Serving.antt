@@ -23,7 +23,7 @@ abbrev pub TellsIntent : NodeCall → Reply → Type 0
 TellsIntent (Coordinator (Begin write)) (from_coordinator (told.Begin (Ok intent))) = IsOfRequest write intent.write
 TellsIntent call reply = Unit {0}
 
--- A caller that made a call has the reply to it, and knows what it knew. Where the store rested when it was opened, what the reply tells is of the list that
+-- A caller that made a call has the reply to it, and knows what it knew. If the store rested when it was opened, what the reply tells is of the list that
 -- the caller has then seen: to anyone, to a watch, to a care and to a write.
 pub record Serves (rests : Type 0) (shards : ℕ) (old new : Known Entry) (call : NodeCall) (reply : Reply) : Type 0 where
   pub later : IsLater old new

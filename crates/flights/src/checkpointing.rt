@@ -27,7 +27,7 @@ fn checkpoint_here<D: Device, B: Room>(side: &mut ShardSide<D, B>, told: &mut To
 }
 
 impl<D: Device, B: Room> ShardPlace<D, B> {
-    /// Replaces the records of the shard by a checkpoint of what it knows. None where its devices are out: then all stays as it is.
+    /// Replaces the records of the shard by a checkpoint of what it knows. None if its devices are out: then all stays as it is.
     pub fn checkpoint(&mut self, told: &mut Told) -> Option<Reply>
         ensures made { IfSome result (λ reply. ChecksPointThere D.state D.honest D.moment D.left_since self.old reply self.new) }
         ensures belongs { IfSome result (λ reply. IsReplyTo (of_shard (number_at self.old) checkpoint_call) reply) }
@@ -43,7 +43,7 @@ impl<D: Device, B: Room> ShardPlace<D, B> {
 }
 
 impl<D: Device, B: Room> CoordinatorPlace<D, B> {
-    /// How many bytes its current bank has; 0 where its opening was refused. While its devices are out, those before they left.
+    /// How many bytes its current bank has; 0 if its opening was refused. While its devices are out, those before they left.
     pub fn bank_len(&self) -> u64
         ensures { result ≡ log_bank_len_at self.now }
     {
@@ -54,7 +54,7 @@ impl<D: Device, B: Room> CoordinatorPlace<D, B> {
         }
     }
 
-    /// How many bytes a checkpoint of its node has, wherever its devices are; none where its opening was refused, or there is no memory to tell.
+    /// How many bytes a checkpoint of its node has, wherever its devices are; none if its opening was refused, or there is no memory to tell.
     pub fn checkpoint_len(&self) -> Option<u64> {
         match &self.berth {
             Some(Berth::Here(side, _)) => side.checkpoint_len(),
@@ -72,7 +72,7 @@ impl<D: Device, B: Room> CoordinatorPlace<D, B> {
         }
     }
 
-    /// Replaces the records of the coordinator by a checkpoint of what it knows, behind which all that was staged has joined the list. None where its devices
+    /// Replaces the records of the coordinator by a checkpoint of what it knows, after which all that was staged has joined the list. None if its devices
     /// are out: then all stays as it is.
     pub fn checkpoint(
         &mut self,

@@ -19,7 +19,7 @@ use std::alloc::Global;
 use std::sync::{Mutex, MutexGuard, Wait};
 use tuples::Refusal;
 
-/// The coordinator under its lock, which nobody holds while a flight's devices sync; and whoever waits for these to land.
+/// The coordinator under its lock, which nobody holds while a flight's devices sync; and those who wait for these to land.
 #[derive(Drop)]
 pub struct CoordinatorCell<D: Device, B: Room> {
     place: Mutex<CoordinatorPlace<D, B>>,
@@ -40,7 +40,7 @@ impl<D: Device, B: Room> CoordinatorCell<D, B> {
         lock_soon(rt, &self.place)
     }
 
-    /// The coordinator, locked, while a decision more can be counted among all that were ever staged. 2^64 - 1 can, which no run uses up; behind them it waits
+    /// The coordinator, locked, while a decision more can be counted among all that were ever staged. 2^64 - 1 can, which no run uses up; after them it waits
     /// forever.
     pub fn lock_to_ask<'a, R: Wait>(
         &'a self,
@@ -58,7 +58,7 @@ impl<D: Device, B: Room> CoordinatorCell<D, B> {
         unreachable!()
     }
 
-    // Locked as it is, or else again, once the flight of this number has landed or its devices are here. Where it has landed, others may wait for it still: the
+    // Locked as it is, or else again, once the flight of this number has landed or its devices are here. If it has landed, others may still wait for it: the
     // caller passes it on to them.
     fn landed<'a, R: Wait>(
         &'a self,
@@ -81,12 +81,12 @@ impl<D: Device, B: Room> CoordinatorCell<D, B> {
     // Locked, once its devices are here.
     fn lock_here<'a, R: Wait>(&'a self, rt: &R) -> MutexGuard<'a, CoordinatorPlace<D, B>> {
         let place = self.landed(rt, self.lock(rt), ANY);
-        // It may have been woken in the place of another, who would sleep for ever where no flight leaves behind it.
+        // It may have been woken in the place of another, who would sleep for ever if no flight left after it.
         self.landings.tell_all();
         place
     }
 
-    // The next flight, which leaves now; or what is told of a flush, once all that was staged for the caller has landed, or where nothing can leave. Where
+    // The next flight, which leaves now; or what is told of a flush, once all that was staged for the caller has landed, or if nothing can leave. If
     // nothing was staged for the caller since it asked last, that is all that is staged now.
     fn leave<R: Wait>(
         &self,
@@ -147,7 +147,7 @@ impl<D: Device, B: Room> CoordinatorCell<D, B> {
         reply
     }
 
-    /// Makes durable what was staged for the caller. Where its devices are out it waits for them to land, and whoever is first then takes along what all have
+    /// Makes durable what was staged for the caller. If its devices are out it waits for them to land, and whoever is first then takes along what all have
     /// staged. What is durable joins the list as they land.
     pub fn flush<R: Wait>(
         &self,
@@ -189,7 +189,7 @@ impl<D: Device, B: Room> CoordinatorCell<D, B> {
         unreachable!()
     }
 
-    /// Opens it again, once its devices are here, and what it found joins the list. The refusal of its opening, where that was refused.
+    /// Opens it again, once its devices are here, and what it found joins the list. The refusal of its opening, if that was refused.
     pub fn restart<R: Wait>(&self, rt: &R, lists: &Lists<B>, alloc: Global) -> Option<Refusal> {
         for _ in rt.forever() {
             let mut place = self.lock_here(rt);

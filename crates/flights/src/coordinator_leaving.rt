@@ -69,7 +69,7 @@ fn send<D: Device, B: Room>(
     }
 }
 
-// Lends the coordinator's devices, where it is up.
+// Lends the coordinator's devices, if it is up.
 fn send_if_up<D: Device, B: Room>(
     lists: &Lists<B>,
     log: &mut LaunchLog<B>,
@@ -93,7 +93,7 @@ fn send_if_up<D: Device, B: Room>(
 }
 
 impl<D: Device, B: Room> CoordinatorPlace<D, B> {
-    /// Its devices leave on a flight, with all that is staged: where they are here, it is up, and one flight more can be numbered. Else all stays as it is.
+    /// Its devices leave on a flight, with all that is staged, if they are here, it is up, and one flight more can be numbered. Else all stays as it is.
     pub fn launch(&mut self, lists: &Lists<B>, log: &mut LaunchLog<B>) -> Option<Flight<D, B>>
         ensures launched { IfSome result (λ f. HasLogLaunched D.state D.honest self.old f self.new) }
         ensures leaves { IsSome result ↔ (IsLogUpHere self.old × HasNumber log.old.seen) }

@@ -57,7 +57,7 @@ impl<D: Device, B: Room> CoordinatorPlace<D, B> {
         }
     }
 
-    /// Its devices come back from their flight. Where that went well, what flew is durable, and joins the list; else the coordinator is down. What was staged
+    /// Its devices come back from their flight. If that went well, what flew is durable, and joins the list; else the coordinator is down. What was staged
     /// since is staged still. Only another flight does not land: it comes back as it was, and nothing is changed.
     pub fn land(&mut self, lists: &Lists<B>, flown: Flown<D, B>) -> Result<(), Flown<D, B>>
         ensures landed { OnOk result (HasLogLanded D.state D.honest self.old flown self.new) }
@@ -97,7 +97,7 @@ impl<D: Device, B: Room> CoordinatorPlace<D, B> {
         }
     }
 
-    /// The node's memory is thrown away, its devices are revived, and it is opened again, and what it found joins the list: where they are here.
+    /// The node's memory is thrown away, its devices are revived, and it is opened again, and what it found joins the list, if they are here.
     pub fn restart(&mut self, lists: &Lists<B>, alloc: Global) -> Restart
         ensures { HasLogRestarted D.state D.honest D.moment D.left_since B.store B.shards self.old result self.new }
     {

@@ -13,7 +13,7 @@ const WAITER: u64 = 1 << 32;
 #[derive(Drop)]
 pub(crate) struct Landings {
     // of those who wait for a flight of an even number, and for one of an odd number: in the lower half how often they were told of something, in the upper
-    // half how many there are, so that a landing calls the system only where somebody waits
+    // half how many there are, so that a landing calls the system only if somebody waits
     even: AtomicU64,
     odd: AtomicU64,
 }
@@ -71,7 +71,7 @@ impl Landings {
         }
     }
 
-    /// All who wait go on and look again: where no flight can leave, and where the caller waited for whichever lands.
+    /// All who wait go on and look again: if no flight can leave, and if the caller waited for whichever lands.
     pub(crate) fn tell_all(&self) {
         for told in [&self.even, &self.odd] {
             told.fetch_add(1, Ordering::SeqCst);

@@ -65,7 +65,7 @@ fn send<D: Device, B: Room>(
     }
 }
 
-// Lends a shard's devices, where it is up.
+// Lends a shard's devices, if it is up.
 fn send_if_up<D: Device, B: Room>(
     lists: &Lists<B>,
     log: &mut LaunchLog<B>,
@@ -90,7 +90,7 @@ fn send_if_up<D: Device, B: Room>(
 }
 
 impl<D: Device, B: Room> ShardPlace<D, B> {
-    /// Its devices leave on a flight, with all that is staged: where they are here, it is up, and one flight more can be numbered. Else all stays as it is.
+    /// Its devices leave on a flight, with all that is staged, if they are here, it is up, and one flight more can be numbered. Else all stays as it is.
     pub fn launch(&mut self, lists: &Lists<B>, log: &mut LaunchLog<B>) -> Option<Flight<D, B>>
         ensures launched { IfSome result (λ f. HasLaunched D.state D.honest self.old f self.new) }
         ensures leaves { IsSome result ↔ (IsUpHere self.old × HasNumber log.old.seen) }

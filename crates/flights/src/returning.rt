@@ -67,7 +67,7 @@ impl<D: Device, B: Room> ShardPlace<D, B> {
         }
     }
 
-    /// Its devices come back from their flight. Where that went well, what flew is durable; else the shard is down. What was staged since is staged still.
+    /// Its devices come back from their flight. If that went well, what flew is durable; else the shard is down. What was staged since is staged still.
     /// Only another flight does not land: it comes back as it was, and nothing is changed.
     pub fn land<R: Wait>(
         &mut self,
@@ -115,7 +115,7 @@ impl<D: Device, B: Room> ShardPlace<D, B> {
         }
     }
 
-    /// The node's memory is thrown away, its devices are revived, and it is opened again: where they are here.
+    /// The node's memory is thrown away, its devices are revived, and it is opened again, if they are here.
     pub fn restart(&mut self, alloc: Global) -> Restart
         ensures { HasRestarted D.state D.honest D.moment D.left_since B.store B.shards self.old result self.new }
     {

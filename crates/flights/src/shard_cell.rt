@@ -16,7 +16,7 @@ use std::alloc::Global;
 use std::sync::{Mutex, RwLock, RwLockReadGuard, RwLockWriteGuard, Wait};
 use tuples::Refusal;
 
-/// A shard under its lock, which nobody holds while a flight's devices sync, and many may hold to read; and whoever waits for these to land.
+/// A shard under its lock, which nobody holds while a flight's devices sync, and many may hold to read; and those who wait for these to land.
 #[derive(Drop)]
 pub struct ShardCell<D: Device, B: Room> {
     place: RwLock<ShardPlace<D, B>>,
@@ -42,7 +42,7 @@ impl<D: Device, B: Room> ShardCell<D, B> {
         read_soon(rt, &self.place)
     }
 
-    // Locked as it is, or else again, once the flight of this number has landed or its devices are here. Where it has landed, others may wait for it still: the
+    // Locked as it is, or else again, once the flight of this number has landed or its devices are here. If it has landed, others may still wait for it: the
     // caller passes it on to them.
     fn landed<'a, R: Wait>(
         &'a self,
@@ -65,12 +65,12 @@ impl<D: Device, B: Room> ShardCell<D, B> {
     // Locked, once its devices are here.
     fn lock_here<'a, R: Wait>(&'a self, rt: &R) -> RwLockWriteGuard<'a, ShardPlace<D, B>> {
         let place = self.landed(rt, self.lock(rt), ANY);
-        // It may have been woken in the place of another, who would sleep for ever where no flight leaves behind it.
+        // It may have been woken in the place of another, who would sleep for ever if no flight left after it.
         self.landings.tell_all();
         place
     }
 
-    // The next flight, which leaves now; or what is told of a flush, once all that is staged now has landed, or where nothing can leave.
+    // The next flight, which leaves now; or what is told of a flush, once all that is staged now has landed, or if nothing can leave.
     fn leave<R: Wait>(
         &self,
         rt: &R,
@@ -119,7 +119,7 @@ impl<D: Device, B: Room> ShardCell<D, B> {
         reply
     }
 
-    /// Makes durable what is staged. Where its devices are out it waits for them to land, and whoever is first then takes along what all have staged.
+    /// Makes durable what is staged. If its devices are out it waits for them to land, and whoever is first then takes along what all have staged.
     pub fn flush<R: Wait>(
         &self,
         rt: &R,
@@ -150,7 +150,7 @@ impl<D: Device, B: Room> ShardCell<D, B> {
         unreachable!()
     }
 
-    /// Opens it again, once its devices are here. The refusal of its opening, where that was refused.
+    /// Opens it again, once its devices are here. The refusal of its opening, if that was refused.
     pub fn restart<R: Wait>(&self, rt: &R, alloc: Global) -> Option<Refusal> {
         for _ in rt.forever() {
             let mut place = self.lock_here(rt);

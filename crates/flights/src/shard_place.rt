@@ -88,7 +88,7 @@ impl<D: Device, B: Room> ShardPlace<D, B> {
         }
     }
 
-    /// How many bytes its current bank has; 0 where its opening was refused. While its devices are out, those before they left.
+    /// How many bytes its current bank has; 0 if its opening was refused. While its devices are out, those before they left.
     pub fn bank_len(&self) -> u64
         ensures { result ≡ bank_len_at self.now }
     {
@@ -99,7 +99,7 @@ impl<D: Device, B: Room> ShardPlace<D, B> {
         }
     }
 
-    /// How many bytes a checkpoint of its node has, wherever its devices are; none where its opening was refused, or there is no memory to tell.
+    /// How many bytes a checkpoint of its node has, wherever its devices are; none if its opening was refused, or there is no memory to tell.
     pub fn checkpoint_len(&self) -> Option<u64> {
         match &self.berth {
             Some(Berth::Here(side, _)) => side.checkpoint_len(),

@@ -2,8 +2,8 @@
 use std::hint::spin_loop;
 use std::sync::{Mutex, MutexGuard, RwLock, RwLockReadGuard, RwLockWriteGuard, Wait};
 
-// How often one is tried before its caller sleeps: for some ten microseconds, as a try and the pause behind it take twenty-five nanoseconds or more. Who sleeps
-// waits for a processor behind it, and each hold that ends meanwhile costs a call of the system.
+// How often one is tried before its caller sleeps: for some ten microseconds, as a try and the pause after it take twenty-five nanoseconds or more. Who sleeps
+// waits for a processor after it, and each hold that ends meanwhile costs a call of the system.
 const TRIES: u32 = 400;
 
 /// What lies under the lock, locked.

@@ -14,12 +14,12 @@ pub(crate) trait Lands {
 }
 
 /// For who wants the flight of this number to have landed, or the devices to be here: which flight to wait for, without the lock, and what was told so far of it.
-/// None where it has landed, or they are here.
+/// None if it has landed, or they are here.
 pub(crate) fn awaited<P: Lands>(place: &P, landings: &Landings, ticket: u64) -> Option<(u64, u64)> {
     if place.has_landed(ticket) || !place.is_out() {
         return None;
     }
-    // Whoever lands tells of it behind the lock, so no landing since is missed.
+    // Whoever lands tells of it after the lock, so no landing since is missed.
     let flight = ticket.min(place.ticket());
     Some((flight, landings.seen(flight)))
 }

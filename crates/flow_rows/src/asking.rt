@@ -2,11 +2,11 @@
 ghost use Rattle.std.specs.Prelude.{◌≡◌};
 
 use crate::call_names::Named;
-use crate::logging::{log_check, log_read, log_watch};
+use crate::logging::{log_check, log_none, log_read, log_watch};
 use crate::stores::{Store, shards};
-use crate::turning::turn;
-use answer_flow::{CheckFlow, ReadFlow, WatchFlow};
-use calls::Told;
+use crate::turning::spend;
+use answer_flow::{CheckEnd, CheckFlow, ReadEnd, ReadFlow, WatchEnd, WatchFlow};
+use calls::{Progress, Told};
 use device::Device;
 use std::alloc::Global;
 use tuples::{Freshness, Refusal, Request, Tuple, Userset};
@@ -19,8 +19,12 @@ pub(crate) struct Reading {
 }
 
 impl Reading {
-    fn turn<D: Device>(&mut self, store: &mut Store<D>, told: &mut Told) -> Option<Named> {
-        turn(&mut self.flow, store, told)
+    fn turn<D: Device>(self, store: &mut Store<D>, told: &mut Told) -> (Named, Asking) {
+        let (named, left) = spend(self.flow, store, told);
+        match left {
+            Progress::Next(flow) => (named, Asking::Read(Reading { flow })),
+            Progress::Ended(done) => (named, Asking::HasRead(done.end)),
+        }
     }
 }
 
@@ -43,17 +47,36 @@ impl Checking {
         Ok(Checking { flow })
     }
 
-    fn turn<D: Device>(&mut self, store: &mut Store<D>, told: &mut Told) -> Option<Named> {
-        turn(&mut self.flow, store, told)
+    fn turn<D: Device>(self, store: &mut Store<D>, told: &mut Told) -> (Named, Asking) {
+        let (named, left) = spend(self.flow, store, told);
+        match left {
+            Progress::Next(flow) => (named, Asking::Check(Checking { flow })),
+            Progress::Ended(done) => (named, Asking::HasChecked(done.end)),
+        }
     }
 }
 
-/// A question to a store of two shards.
+fn turn_watch<D: Device>(
+    flow: WatchFlow,
+    store: &mut Store<D>,
+    told: &mut Told,
+) -> (Named, Asking) {
+    let (named, left) = spend(flow, store, told);
+    match left {
+        Progress::Next(flow) => (named, Asking::Watch(flow)),
+        Progress::Ended(end) => (named, Asking::HasWatched(end)),
+    }
+}
+
+/// A question to a store of two shards, or how it ended.
 #[derive(Drop)]
 pub(crate) enum Asking {
     Read(Reading),
     Check(Checking),
     Watch(WatchFlow),
+    HasRead(ReadEnd),
+    HasChecked(CheckEnd),
+    HasWatched(WatchEnd),
 }
 
 impl Asking {
@@ -76,25 +99,49 @@ impl Asking {
         }
     }
 
-    /// Makes its next call, and gives it the reply; none if it has ended.
-    pub(crate) fn turn<D: Device>(
-        &mut self,
-        store: &mut Store<D>,
-        told: &mut Told,
-    ) -> Option<Named> {
-        match self {
+    // The turn of one that waits.
+    fn spend<D: Device>(self, store: &mut Store<D>, told: &mut Told) -> (Option<Named>, Asking) {
+        let (named, left) = match self {
             Asking::Read(read) => read.turn(store, told),
             Asking::Check(check) => check.turn(store, told),
-            Asking::Watch(watch) => turn(watch, store, told),
+            Asking::Watch(watch) => turn_watch(watch, store, told),
+            ended => return (None, ended),
+        };
+        (Some(named), left)
+    }
+
+    /// Makes this many of its calls, fewer if it ends before, and logs them where a log is handed in.
+    pub(crate) fn turn_all<D: Device>(
+        self,
+        turns: usize,
+        store: &mut Store<D>,
+        told: &mut Told,
+        log: Option<&mut String>,
+    ) -> Result<Asking, Refusal> {
+        let mut log = log;
+        let mut question = self;
+        for _ in 0..turns {
+            let (named, left) = question.spend(store, told);
+            question = left;
+            match named {
+                Some(named) => {
+                    if let Some(log) = &mut log {
+                        named.write_to(log)?;
+                    }
+                }
+                None => return Ok(question),
+            }
         }
+        Ok(question)
     }
 
     /// How it ended.
     pub(crate) fn log_end(self, alloc: Global, log: &mut String) -> Result<(), Refusal> {
         match self {
-            Asking::Read(read) => log_read(alloc, log, read.flow.finish()),
-            Asking::Check(check) => log_check(log, check.flow.finish()),
-            Asking::Watch(watch) => log_watch(log, watch.finish()),
+            Asking::HasRead(end) => log_read(alloc, log, end),
+            Asking::HasChecked(end) => log_check(log, end),
+            Asking::HasWatched(end) => log_watch(log, end),
+            Asking::Read(_) | Asking::Check(_) | Asking::Watch(_) => log_none(log),
         }
     }
 }

@@ -1,11 +1,12 @@
 // Cares of the nodes, turn by turn.
-ghost use Rattle.std.specs.Prelude.{◌≡◌, true, IfSome};
+ghost use Rattle.std.specs.Prelude.{◌≡◌, true, IfOk, IfSome};
+ghost use Rattle.calls.specs.Flows.{IfNext};
 ghost use Rattle.care_flow.specs.Cares.{IsThere, begun};
 
 use crate::stores::{SHARDS, Store, shards};
-use crate::turning::turn;
-use calls::Told;
-use care_flow::CareFlow;
+use crate::turning::spend;
+use calls::{Progress, Told};
+use care_flow::{CareEnd, CareFlow};
 use device::Device;
 use names::{Care, NodeName};
 use std::alloc::{AllocError, Global};
@@ -38,20 +39,36 @@ pub(crate) fn begin_care(alloc: Global, care: Care) -> Option<CareFlow>
 
 /// Makes this many of its calls, and logs them; fewer if it ends before.
 pub(crate) fn turn_all<D: Device>(
-    flow: &mut CareFlow,
+    flow: CareFlow,
     turns: usize,
     store: &mut Store<D>,
     told: &mut Told,
     log: &mut String,
-) -> Result<(), AllocError>
-    requires { IsThere 2 flow.old }
-    ensures { IsThere 2 flow.new }
+) -> Result<Progress<CareFlow, CareEnd>, AllocError>
+    requires { IsThere 2 flow }
+    ensures { IfOk result (λ left. IfNext left (IsThere 2)) }
 {
+    let mut flow = flow;
     for _turn in 0..turns {
-        match turn(flow, store, told) {
-            Some(named) => named.write_to(log)?,
-            None => return Ok(()),
+        let (named, left) = spend(flow, store, told);
+        match left {
+            Progress::Next(later) => {
+                named.write_to(log)?;
+                flow = later;
+            }
+            Progress::Ended(end) => {
+                named.write_to(log)?;
+                return Ok(Progress::Ended(end));
+            }
         }
     }
-    Ok(())
+    Ok(Progress::Next(flow))
+}
+
+/// How it ended, if it has.
+pub(crate) fn end_of(left: Progress<CareFlow, CareEnd>) -> Option<CareEnd> {
+    match left {
+        Progress::Next(_flow) => None,
+        Progress::Ended(end) => Some(end),
+    }
 }

@@ -17,7 +17,7 @@ fn log_refusal(log: &mut String, refusal: Refusal) -> Result<(), Refusal> {
     Ok(())
 }
 
-fn log_none(log: &mut String) -> Result<(), Refusal> {
+pub(crate) fn log_none(log: &mut String) -> Result<(), Refusal> {
     log.push_str("not at its end; ")?;
     Ok(())
 }
@@ -79,9 +79,9 @@ fn log_event(log: &mut String, event: &Version) -> Result<(), Refusal> {
     Ok(())
 }
 
-pub(crate) fn log_watch(log: &mut String, end: Option<WatchEnd>) -> Result<(), Refusal> {
+pub(crate) fn log_watch(log: &mut String, end: WatchEnd) -> Result<(), Refusal> {
     match end {
-        Some(WatchEnd::Answered(place, events)) => {
+        WatchEnd::Answered(place, events) => {
             for event in &events {
                 log_event(log, event)?;
             }
@@ -89,8 +89,7 @@ pub(crate) fn log_watch(log: &mut String, end: Option<WatchEnd>) -> Result<(), R
             push_number(log, place)?;
             log.push_str("; ")?;
         }
-        Some(WatchEnd::Refused(refusal)) => log_refusal(log, refusal)?,
-        None => log_none(log)?,
+        WatchEnd::Refused(refusal) => log_refusal(log, refusal)?,
     }
     Ok(())
 }
@@ -117,13 +116,9 @@ fn log_rows(alloc: Global, log: &mut String, number: u64, rows: &[Tuple]) -> Res
 }
 
 // Tuplesets are numbered from 1 on.
-pub(crate) fn log_read(
-    alloc: Global,
-    log: &mut String,
-    end: Option<ReadEnd>,
-) -> Result<(), Refusal> {
+pub(crate) fn log_read(alloc: Global, log: &mut String, end: ReadEnd) -> Result<(), Refusal> {
     match end {
-        Some(ReadEnd::Answered(place, done)) => {
+        ReadEnd::Answered(place, done) => {
             log.push_str("at ")?;
             push_number(log, place)?;
             let mut number: u64 = 0;
@@ -133,21 +128,19 @@ pub(crate) fn log_read(
             }
             log.push_str("; ")?;
         }
-        Some(ReadEnd::Refused(refusal)) => log_refusal(log, refusal)?,
-        None => log_none(log)?,
+        ReadEnd::Refused(refusal) => log_refusal(log, refusal)?,
     }
     Ok(())
 }
 
-pub(crate) fn log_check(log: &mut String, end: Option<CheckEnd>) -> Result<(), Refusal> {
+pub(crate) fn log_check(log: &mut String, end: CheckEnd) -> Result<(), Refusal> {
     match end {
-        Some(CheckEnd::Answered(place, is_member)) => {
+        CheckEnd::Answered(place, is_member) => {
             log.push_str(if is_member { "yes at " } else { "no at " })?;
             push_number(log, place)?;
             log.push_str("; ")?;
         }
-        Some(CheckEnd::Refused(refusal)) => log_refusal(log, refusal)?,
-        None => log_none(log)?,
+        CheckEnd::Refused(refusal) => log_refusal(log, refusal)?,
     }
     Ok(())
 }

@@ -1,15 +1,17 @@
 // What a row does with a store, and what comes of it.
+ghost use Rattle.std.specs.Prelude.{IfOk};
+ghost use Rattle.calls.specs.Flows.{IfNext};
 ghost use Rattle.care_flow.specs.Cares.{IsThere};
 
 use crate::asking::Asking;
-use crate::caring::{self, begin_care};
+use crate::caring::{begin_care, end_of, turn_all};
 use crate::logging::{log_care, log_write};
 use crate::steps::MOST_TURNS;
 use crate::stores::Store;
 use crate::texts::write;
 use crate::turning::Turning;
-use calls::{CoordinatorCall, NodeCall, ShardCall, Told};
-use care_flow::CareFlow;
+use calls::{CoordinatorCall, NodeCall, Progress, ShardCall, Told};
+use care_flow::{CareEnd, CareFlow};
 use commit_flow::WriteEnd;
 use device::{Device, Tear};
 use names::{Care, NodeName};
@@ -94,13 +96,11 @@ impl<D: Device> Playing<D> {
 
     /// A care goes to its end.
     pub(crate) fn care(&mut self, alloc: Global, care: Care) -> Result<(), Refusal> {
-        let Some(mut flow) = begin_care(alloc, care) else {
+        let Some(flow) = begin_care(alloc, care) else {
             return Err(Refusal::BadRequest);
         };
-        let turned = self.turn_care(&mut flow, MOST_TURNS);
-        let end = flow.finish();
-        turned?;
-        log_care(&mut self.log, end)
+        let left = self.turn_care(flow, MOST_TURNS)?;
+        log_care(&mut self.log, end_of(left))
     }
 
     /// A care makes this many calls; then the node is opened again, and the care goes to its end.
@@ -111,34 +111,42 @@ impl<D: Device> Playing<D> {
         turns: usize,
         node: NodeName,
     ) -> Result<(), Refusal> {
-        let Some(mut flow) = begin_care(alloc, care) else {
+        let Some(flow) = begin_care(alloc, care) else {
             return Err(Refusal::BadRequest);
         };
-        let turned = self.turn_across(&mut flow, turns, node);
-        let end = flow.finish();
-        turned?;
-        log_care(&mut self.log, end)
+        let left = self.turn_across(flow, turns, node)?;
+        log_care(&mut self.log, end_of(left))
     }
 
     fn turn_across(
         &mut self,
-        flow: &mut CareFlow,
+        flow: CareFlow,
         turns: usize,
         node: NodeName,
-    ) -> Result<(), AllocError>
-        requires { IsThere 2 flow.old }
-        ensures { IsThere 2 flow.new }
+    ) -> Result<Progress<CareFlow, CareEnd>, AllocError>
+        requires { IsThere 2 flow }
     {
-        self.turn_care(flow, turns)?;
-        self.store.restart(node);
-        self.turn_care(flow, MOST_TURNS)
+        match self.turn_care(flow, turns)? {
+            Progress::Next(flow) => {
+                self.store.restart(node);
+                self.turn_care(flow, MOST_TURNS)
+            }
+            Progress::Ended(end) => {
+                self.store.restart(node);
+                Ok(Progress::Ended(end))
+            }
+        }
     }
 
-    fn turn_care(&mut self, flow: &mut CareFlow, turns: usize) -> Result<(), AllocError>
-        requires { IsThere 2 flow.old }
-        ensures { IsThere 2 flow.new }
+    fn turn_care(
+        &mut self,
+        flow: CareFlow,
+        turns: usize,
+    ) -> Result<Progress<CareFlow, CareEnd>, AllocError>
+        requires { IsThere 2 flow }
+        ensures { IfOk result (λ left. IfNext left (IsThere 2)) }
     {
-        caring::turn_all(flow, turns, &mut self.store, &mut self.told, &mut self.log)
+        turn_all(flow, turns, &mut self.store, &mut self.told, &mut self.log)
     }
 
     /// Begins a read, a check or a watch, which makes no call yet.
@@ -151,27 +159,25 @@ impl<D: Device> Playing<D> {
 
     /// The one that was begun last makes this many calls.
     pub(crate) fn ask(&mut self, turns: usize) -> Result<(), Refusal> {
-        let Some(question) = self.questions.last_mut() else {
+        let Some(question) = self.questions.pop() else {
             return Err(Refusal::BadRequest);
         };
-        for _ in 0..turns {
-            match question.turn(&mut self.store, &mut self.told) {
-                Some(named) => named.write_to(&mut self.log)?,
-                None => return Ok(()),
-            }
-        }
+        let log = Some(&mut self.log);
+        let left = question.turn_all(turns, &mut self.store, &mut self.told, log)?;
+        self.questions.reserve(1)?;
+        self.questions.push_reserved(left);
         Ok(())
     }
 
     /// The one that was begun last makes all its calls, which are not logged.
-    pub(crate) fn ask_quietly(&mut self) {
-        if let Some(question) = self.questions.last_mut() {
-            for _ in 0..MOST_TURNS {
-                if question.turn(&mut self.store, &mut self.told).is_none() {
-                    return;
-                }
-            }
-        }
+    pub(crate) fn ask_quietly(&mut self) -> Result<(), Refusal> {
+        let Some(question) = self.questions.pop() else {
+            return Err(Refusal::BadRequest);
+        };
+        let left = question.turn_all(MOST_TURNS, &mut self.store, &mut self.told, None)?;
+        self.questions.reserve(1)?;
+        self.questions.push_reserved(left);
+        Ok(())
     }
 
     /// The one that was begun last goes to its end.

@@ -97,7 +97,7 @@ impl<D: Device> Playing<D> {
 
     fn answer_by(&mut self, alloc: Global, rest: &str) -> Result<(), Refusal> {
         self.begin_by(alloc, rest)?;
-        self.ask_quietly();
+        self.ask_quietly()?;
         self.end(alloc)
     }
 

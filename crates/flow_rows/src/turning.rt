@@ -1,9 +1,10 @@
 // Flows, turn by turn.
 ghost use Rattle.std.specs.Prelude.{◌≡◌};
+ghost use Rattle.calls.specs.Flows.{IfNext};
 
 use crate::call_names::Named;
 use crate::stores::{Store, shards};
-use calls::{Running, Told};
+use calls::{Flow, Progress, Running, Told};
 use commit_flow::{WriteEnd, WriteFlow};
 use device::Device;
 use std::alloc::Global;
@@ -24,6 +25,22 @@ pub(crate) fn turn<F: Running, D: Device>(
     let reply = store.ask(call, told);
     flow.give(reply);
     Some(named)
+}
+
+/// Makes the flow's next call, and what the reply makes of it.
+pub(crate) fn spend<F: Flow, D: Device>(
+    flow: F,
+    store: &mut Store<D>,
+    told: &mut Told,
+) -> (Named, Progress<F, F::End>)
+    requires { F.is_of 2 flow }
+    ensures { IfNext result.1 (F.is_of 2) }
+{
+    let name = flow.next_name();
+    let (call, out) = flow.next_call();
+    let named = Named::new(name, call.node());
+    let reply = store.ask(call, told);
+    (named, F::give(out, reply))
 }
 
 /// A write of a store of two shards. It has no `Drop`, as its flow.

@@ -2,7 +2,7 @@
 use Rattle.std.proofs.Common.{◌≡◌, ◌⊎◌, inl, inr, ⊎_elim, ℕ, ◌≤◌, ◌<◌, ◌+◌, ◌-◌, List, length, take, drop, Some, None, Result, Ok, Err, sym, ◌∙◌, ap, subst, arith}
 use Rattle.std.proofs.lemmas.Bool.{cases_lt}
 use Rattle.std.proofs.lemmas.Option.{same_Some}
-use Rattle.flow_ties.proofs.Words.{AreEventsTo, AreOfLog, batch, BatchGives, BatchValue, Coordinator, Entry, events_from, from_coordinator, HeadsHeld, HeadsValue, heartbeat, IsTold, listed, no_heads, NodeCall, NoMemory, Placed, Refusal, Reply, Shard, waiting, WatchCall, WatchView, with_heads}
+use Rattle.flow_ties.proofs.Words.{AreEventsTo, AreOfLog, batch, BatchGives, BatchValue, Coordinator, Entry, events_from, from_coordinator, HeadsHeld, HeadsValue, heartbeat, IsTold, listed, no_heads, NodeCall, NoMemory, Placed, Refusal, Reply, Shard, waiting, WatchStep, WatchView, with_heads}
 use Rattle.tuples.specs.Limits.{max_watched}
 use Rattle.tuples.specs.Watching.{events}
 use Rattle.tuples.proofs.Lists.{prefix_length}
@@ -16,7 +16,7 @@ module _ (cursor limit : ℕ) (names : List (List ℕ)) (before shards : ℕ) (s
   abbrev Is : WatchView → Type 0
   Is v = IsWatchOf cursor limit names before seen v
 
-  rests : (step : WatchCall) → Is (at_rest step no_heads)
+  rests : (step : WatchStep) → Is (at_rest step no_heads)
   rests step = record {
     heads = λ h none. absurd (let bad : None ≡ Some h = none in cc);
     lists = λ place changes none. absurd (let bad : None ≡ Some (listed place changes) = none in cc);
@@ -111,13 +111,13 @@ module _ (cursor limit : ℕ) (names : List (List ℕ)) (before shards : ℕ) (s
   batch_replied out h from to reply after few has are from_is to_is is_told tells gives = absurd gives
 
   by_call : (v out : WatchView) (call : NodeCall) (reply : Reply) (after : WatchView) → limit ≤ max_watched → Is v → AsksFor cursor limit v call → out ≡ waiting v.next v.holds → IsTold shards seen call reply → TellsWatcher before call reply
-      → ((awaited : WatchCall) → out.awaited ≡ Some awaited → GivesTo cursor limit names out awaited reply after) → Is after
-  by_call v out (Coordinator calls.Heads) reply after few is asks waits is_told tells gives = heads_replied out reply after is_told tells (gives heads (ap (λ (o : WatchView). o.awaited) waits ∙ ap (λ (c : WatchCall). Some c) asks))
-  by_call v out (Coordinator calls.Flush) reply after few is asks waits is_told tells gives = flush_replied out reply after (gives flush (ap (λ (o : WatchView). o.awaited) waits ∙ ap (λ (c : WatchCall). Some c) asks))
+      → ((awaited : WatchStep) → out.awaited ≡ Some awaited → GivesTo cursor limit names out awaited reply after) → Is after
+  by_call v out (Coordinator calls.Heads) reply after few is asks waits is_told tells gives = heads_replied out reply after is_told tells (gives heads (ap (λ (o : WatchView). o.awaited) waits ∙ ap (λ (c : WatchStep). Some c) asks))
+  by_call v out (Coordinator calls.Flush) reply after few is asks waits is_told tells gives = flush_replied out reply after (gives flush (ap (λ (o : WatchView). o.awaited) waits ∙ ap (λ (c : WatchStep). Some c) asks))
   by_call v out (Coordinator (calls.Batch from to)) reply after few is asks waits is_told tells gives =
       let (h, has, from_is, to_is) = asks.1 in
       batch_replied out h from to reply after few (ap (λ (o : WatchView). o.holds) waits ∙ has) (is.heads h (ap (λ (k : HeadsHeld). k.heads) has)) from_is to_is is_told tells
-      (gives batch (ap (λ (o : WatchView). o.awaited) waits ∙ ap (λ (c : WatchCall). Some c) asks.0))
+      (gives batch (ap (λ (o : WatchView). o.awaited) waits ∙ ap (λ (c : WatchStep). Some c) asks.0))
   by_call v out (Coordinator call) reply after few is asks waits is_told tells gives = absurd asks
   by_call v out (Shard s call) reply after few is asks waits is_told tells gives = absurd asks
 

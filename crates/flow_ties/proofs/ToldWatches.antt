@@ -1,6 +1,6 @@
 -- A watch that is refused has a reason: a reply has told it, memory is refused, or its cursor is not there.
 use Rattle.std.proofs.Common.{◌≡◌, inl, inr, ⊎_elim, ℕ, Bool, ◌+◌, List, [], Some, None, Result, Ok, Err, refl, sym, ◌∙◌, ap, subst}
-use Rattle.flow_ties.proofs.Words.{batch, BatchGives, BatchValue, Coordinator, Entry, error_of, events_from, exact, from_coordinator, HasReason, HasTold, HeadsHeld, HeadsValue, heartbeat, listed, no_heads, NodeCall, NoMemory, Placed, Refusal, refused_by, Reply, Shard, TellsCare, TellsReach, waiting, WatchCall, WatchView, with_heads}
+use Rattle.flow_ties.proofs.Words.{batch, BatchGives, BatchValue, Coordinator, Entry, error_of, events_from, exact, from_coordinator, HasReason, HasTold, HeadsHeld, HeadsValue, heartbeat, listed, no_heads, NodeCall, NoMemory, Placed, Refusal, refused_by, Reply, Shard, TellsCare, TellsReach, waiting, WatchStep, WatchView, with_heads}
 use Rattle.calls.specs.declared.call.CoordinatorCall.TheVariants as calls
 use Rattle.calls.specs.declared.reply.CoordinatorReply.TheVariants as told
 use Rattle.answer_flow.specs.Watching.{AsksFor, FlushGives, GivesTo, HeadsGive}
@@ -15,7 +15,7 @@ module _ (cursor limit : ℕ) (names : List (List ℕ)) (marks : List Bool) (see
   abbrev Is : WatchView → Type 0
   Is after = WatchHasReason marks cursor seen low after
 
-  rests : (step : WatchCall) (h : HeadsHeld) → Is (at_rest step h)
+  rests : (step : WatchStep) (h : HeadsHeld) → Is (at_rest step h)
   rests step h e none = absurd (let bad : None ≡ Some (refused e) = none in cc)
 
   lists : (place : ℕ) (changes : List Placed) → Is (ended (listed place changes))
@@ -69,12 +69,12 @@ module _ (cursor limit : ℕ) (names : List (List ℕ)) (marks : List Bool) (see
   batch_replied out h has reply after carried gives = absurd gives
 
   by_call : (v out : WatchView) (call : NodeCall) (reply : Reply) (after : WatchView) → AsksFor cursor limit v call → out ≡ waiting v.next v.holds → IsCarried reply → TellsReach seen call reply → TellsCare low call reply
-      → ((awaited : WatchCall) → out.awaited ≡ Some awaited → GivesTo cursor limit names out awaited reply after) → Is after
-  by_call v out (Coordinator calls.Heads) reply after asks waits carried reach horizon gives = heads_replied out reply after carried reach horizon (gives heads (ap (λ (o : WatchView). o.awaited) waits ∙ ap (λ (c : WatchCall). Some c) asks))
-  by_call v out (Coordinator calls.Flush) reply after asks waits carried reach horizon gives = flush_replied out reply after carried (gives flush (ap (λ (o : WatchView). o.awaited) waits ∙ ap (λ (c : WatchCall). Some c) asks))
+      → ((awaited : WatchStep) → out.awaited ≡ Some awaited → GivesTo cursor limit names out awaited reply after) → Is after
+  by_call v out (Coordinator calls.Heads) reply after asks waits carried reach horizon gives = heads_replied out reply after carried reach horizon (gives heads (ap (λ (o : WatchView). o.awaited) waits ∙ ap (λ (c : WatchStep). Some c) asks))
+  by_call v out (Coordinator calls.Flush) reply after asks waits carried reach horizon gives = flush_replied out reply after carried (gives flush (ap (λ (o : WatchView). o.awaited) waits ∙ ap (λ (c : WatchStep). Some c) asks))
   by_call v out (Coordinator (calls.Batch from to)) reply after asks waits carried reach horizon gives =
       let (h, has, from_is, to_is) = asks.1 in
-      batch_replied out h (ap (λ (o : WatchView). o.holds) waits ∙ has) reply after carried (gives batch (ap (λ (o : WatchView). o.awaited) waits ∙ ap (λ (c : WatchCall). Some c) asks.0))
+      batch_replied out h (ap (λ (o : WatchView). o.holds) waits ∙ has) reply after carried (gives batch (ap (λ (o : WatchView). o.awaited) waits ∙ ap (λ (c : WatchStep). Some c) asks.0))
   by_call v out (Coordinator call) reply after asks waits carried reach horizon gives = absurd asks
   by_call v out (Shard s call) reply after asks waits carried reach horizon gives = absurd asks
 

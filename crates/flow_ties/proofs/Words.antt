@@ -3,7 +3,7 @@ pub use Rattle.answer_flow.specs.CheckViews.{at_rest, catch_up, catch_up_call, C
 pub use Rattle.answer_flow.specs.Checking.{AsksFor, CatchesUp, CatchUpGives, Continues, FlushGives, GivesTo, HeadsGive, ProgressGives, ReadGives, RowsGive}
 pub use Rattle.answer_flow.specs.ReadViews.{ReadAwaited, ReadStep, ReadView, selected}
 pub use Rattle.answer_flow.specs.Reading.{Finishes}
-pub use Rattle.answer_flow.specs.WatchViews.{batch, listed, waiting, WatchCall, WatchView, with_heads}
+pub use Rattle.answer_flow.specs.WatchViews.{batch, listed, waiting, WatchStep, WatchView, with_heads}
 pub use Rattle.answer_flow.specs.Watching.{BatchGives, heartbeat}
 pub use Rattle.calls.specs.Asking.{MayBeMade}
 pub use Rattle.calls.specs.Belonging.{IsReplyTo}

@@ -15,7 +15,7 @@ use Rattle.calls.specs.declared.reply.Reply.{Reply}
 use Rattle.calls.specs.declared.reply.Reply.TheVariants.{Coordinator as from_coordinator}
 use Rattle.calls.specs.declared.reply.CoordinatorReply.TheVariants as told
 use Rattle.answer_flow.specs.Watching.{Asks, GivesTo}
-use Rattle.answer_flow.specs.WatchViews.{WatchCall, WatchView, at_rest, heads, listed, refused}
+use Rattle.answer_flow.specs.WatchViews.{WatchStep, WatchView, at_rest, heads, listed, refused}
 use Rattle.flow_ties.specs.Telling.{IsTold}
 use Rattle.flow_ties.specs.Refusing.{HasReason, Notices, TellsReach}
 use Rattle.flow_ties.specs.Cares.{TellsCare}
@@ -58,7 +58,7 @@ module _ (cursor limit : ℕ) (names : List (List ℕ)) (before : ℕ) where
     pub asks : Asks cursor limit v call out
     pub told : IsTold shards later call reply
     pub tells : TellsWatcher before call reply
-    pub gives : (awaited : WatchCall) → out.awaited ≡ Some awaited → GivesTo cursor limit names out awaited reply after
+    pub gives : (awaited : WatchStep) → out.awaited ≡ Some awaited → GivesTo cursor limit names out awaited reply after
 
 abbrev pub WatchesBegin : Type 0
 WatchesBegin = (cursor limit : ℕ) (names : List (List ℕ)) (before : ℕ) (seen : List Entry) → IsWatchOf cursor limit names before seen (at_rest heads no_heads)
@@ -78,10 +78,10 @@ WatchHasReason marks cursor seen low v = (e : Refusal) → v.ended ≡ Some (ref
 
 -- between two calls, and so when it begins, it has not ended
 abbrev pub WatchesAtRestHaveReason : Type 0
-WatchesAtRestHaveReason = (cursor : ℕ) (marks : List Bool) (seen : List Entry) (low : ℕ) (step : WatchCall) (h : HeadsHeld) → WatchHasReason marks cursor seen low (at_rest step h)
+WatchesAtRestHaveReason = (cursor : ℕ) (marks : List Bool) (seen : List Entry) (low : ℕ) (step : WatchStep) (h : HeadsHeld) → WatchHasReason marks cursor seen low (at_rest step h)
 
 -- If heads tell no less than what is seen, and no horizon above the one that is, a reply ends a watch with a refusal only for a reason.
 abbrev pub WatchesRefuseForAReason : Type 0
 WatchesRefuseForAReason = (shards cursor limit : ℕ) (names : List (List ℕ)) (old new : List Bool) (seen : List Entry) (low : ℕ) (v out after : WatchView) (call : NodeCall) (reply : Reply)
-    → Asks cursor limit v call out → IsReplyTo call reply → ((awaited : WatchCall) → out.awaited ≡ Some awaited → GivesTo cursor limit names out awaited reply after)
+    → Asks cursor limit v call out → IsReplyTo call reply → ((awaited : WatchStep) → out.awaited ≡ Some awaited → GivesTo cursor limit names out awaited reply after)
     → TellsReach seen call reply → TellsCare low call reply → Notices shards old call reply new → WatchHasReason new cursor seen low after

@@ -101,9 +101,9 @@ module _ {D : Type 0} (state : D → State) (honest : D → Type 0) (moment : D 
     by_kind (Write v) (Some (Write w)) view before is c put = on v w (before ∙ ap (λ (x : FlowView). Some x) is.0) is.1 is.2 is.3 c.0 c.1 put
     by_kind (Write v) None view before is c put = out v c.0 (before ∙ ap (λ (x : FlowView). Some x) is.0) is.1 is.2 is.3 c.1 c.2 put
     by_kind (Write v) (Some later) view before is c put = absurd c
-    by_kind (Read v) later view before is c put = gone (read_of v) (reading v.seen.holds) refl (before ∙ ap (λ (x : FlowView). Some x) is.0) (put_none later put c)
-    by_kind (Check v) later view before is c put = gone (check_of is.0 v) (checking v.seen.holds) refl (before ∙ ap (λ (x : FlowView). Some x) is.1) (put_none later put c)
-    by_kind (Watch v) later view before is c put = gone (asked_of v) (watching v.seen.holds) refl (before ∙ ap (λ (x : FlowView). Some x) is.0) (put_none later put c)
+    by_kind (Read v) later view before is c put = gone (read_of v) (reading v.holds) refl (before ∙ ap (λ (x : FlowView). Some x) is.0) (put_none later put c)
+    by_kind (Check v) later view before is c put = gone (check_of is.0 v) (checking v.holds) refl (before ∙ ap (λ (x : FlowView). Some x) is.1) (put_none later put c)
+    by_kind (Watch v) later view before is c put = gone (asked_of v) (watching v.holds) refl (before ∙ ap (λ (x : FlowView). Some x) is.0) (put_none later put c)
     by_kind (Care v) later view before is c put = care_gone v (before ∙ ap (λ (x : FlowView). Some x) is.0) (put_none later put c)
 
   module _ (old new : WorldView D) (s : Store D) (shows : Shows old s) (slot : ℕ) (told : Option What) where

@@ -1,7 +1,10 @@
 -- How a flow is left after its turn: it goes on if a call of it comes next, and is gone if none does.
 use Rattle.std.proofs.Common.{◌≡◌, ◌≢◌, ℕ, List, Option, Some, None, MatchOption, refl, subst}
 use Rattle.headline.proofs.Words.{CallName, Flow, GoesOn, HasGone, Leaves, What, flow_at}
+use Rattle.calls.specs.declared.progress.Progress.{Progress}
+use Rattle.calls.specs.declared.progress.Progress.TheVariants.{Next, Ended}
 use Rattle.cluster.specs.Flows.{NamesNext, next_name_of}
+use Rattle.cluster.specs.Steps.{LeavesSlot}
 
 module _ (old : List (Option Flow)) (slot : ℕ) (later : Flow) (told : Option What) (new : List (Option Flow)) (l : Leaves old slot later told new) where
   pub goes_on : next_name_of later ≢ None → (name : CallName) × GoesOn old slot later name told new
@@ -21,6 +24,10 @@ module _ (old : List (Option Flow)) (slot : ℕ) (later : Flow) (told : Option W
       by_name : (o : Option CallName) → MatchOption o (HasGone old slot later told new) (λ name. GoesOn old slot later name told new) → (k : ℕ) → k ≢ slot → flow_at new k ≡ flow_at old k
       by_name None gone = gone.puts.others
       by_name (Some name) on = on.puts.others
+
+pub others_after : (old : List (Option Flow)) (slot : ℕ) (after : Progress Flow (Option What)) (told : Option What) (new : List (Option Flow)) → LeavesSlot old slot after told new → (k : ℕ) → k ≢ slot → flow_at new k ≡ flow_at old k
+others_after old slot (Next later) told new l = others old slot later told new l
+others_after old slot (Ended end) told new l = l.0.others
 
 -- a flow that waits for no reply and has not ended names a call
 pub names_on : {A E : Type 0} (name : Option CallName) (out : Option A) (end : Option E) → NamesNext name out end → out ≡ None → end ≡ None → name ≢ None

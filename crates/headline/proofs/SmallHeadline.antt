@@ -9,6 +9,7 @@ use Rattle.names.specs.declared.care.Care.TheVariants as cares
 use Rattle.names.specs.declared.node_name.NodeName.TheVariants as named
 use Rattle.calls.specs.Views.{refused}
 use Rattle.calls.specs.declared.call.CoordinatorCall.TheVariants as calls
+use Rattle.calls.specs.declared.progress.Progress.TheVariants as made
 use Rattle.calls.specs.declared.reply.CoordinatorReply.TheVariants as told
 use Rattle.care_flow.specs.Flushing.{flush}
 use Rattle.care_flow.specs.Views.{out}
@@ -79,26 +80,22 @@ module _ {D : Type 0} (state : D → State) (honest : D → Type 0) (moment : D 
     Some (Refused Down),
     (
       record {
-        later = Care refused_down;
-        turns = record {
-          call = Coordinator calls.Flush;
-          out = asking;
-          reply = from_coordinator (told.Flush (Err Down));
-          asked = (refl, (refl, refl, (refl, refl)), λ shards there. tt);
-          fits = tt;
-          whole = tt;
-          called = record { is = away new; answers = inl (refl, refl); new_is = refl };
-          given = ((refl, refl, (ends.Refused Down, refl, refl)), (ends.Refused Down, refl));
-        };
-        leaves = record {
-          named = refl;
-          leaves = record {
-            end = Some (Refused Down);
-            ends = (refl, tt);
-            puts = record { at = refl; others = λ slot ne. elsewhere None slot ne ∙ sym (elsewhere (Some (Care fresh)) slot ne) };
-            tells = refl;
-          };
-        };
+        after = made.Ended (Some (Refused Down));
+        turns = (
+          Care refused_down,
+          record {
+            call = Coordinator calls.Flush;
+            out = asking;
+            reply = from_coordinator (told.Flush (Err Down));
+            asked = (refl, (refl, refl, (refl, refl)), λ shards there. tt);
+            fits = tt;
+            whole = tt;
+            called = record { is = away new; answers = inl (refl, refl); new_is = refl };
+            given = ((refl, refl, (ends.Refused Down, refl, refl)), (ends.Refused Down, refl));
+          },
+          record { named = refl; unnamed = refl; ends = (refl, tt); heard = refl },
+        );
+        leaves = (record { at = refl; others = λ slot ne. elsewhere None slot ne ∙ sym (elsewhere (Some (Care fresh)) slot ne) }, refl);
       },
       refl,
     ),

@@ -27,9 +27,9 @@ named (shard s) = called.Shard s
 -- well. Only the store says which userset a check was asked about.
 abbrev pub IsShownFlow : ℕ → Flow → FlowView → Type 0
 IsShownFlow shards (Write w) view = (view ≡ writes.shown w.flow.seen w.is_cancelled) × (w.flow.shards ≡ shards) × (w.flow.seen.awaited ≡ None) × (w.flow.seen.ended ≡ None)
-IsShownFlow shards (Read v) view = (view ≡ shown_answer (read_of v) (reading v.seen.holds)) × (v.shards ≡ shards) × IsAsked shards (read_of v)
-IsShownFlow shards (Check v) view = (x : Userset) × (view ≡ shown_answer (check_of x v) (checking v.seen.holds)) × (v.shards ≡ shards) × IsAsked shards (check_of x v)
-IsShownFlow shards (Watch v) view = (view ≡ shown_answer (asked_of v) (watching v.seen.holds)) × IsAsked shards (asked_of v)
+IsShownFlow shards (Read v) view = (view ≡ shown_answer (read_of v) (reading v.holds)) × (v.shards ≡ shards) × IsAsked shards (read_of v)
+IsShownFlow shards (Check v) view = (x : Userset) × (view ≡ shown_answer (check_of x v) (checking v.holds)) × (v.shards ≡ shards) × IsAsked shards (check_of x v)
+IsShownFlow shards (Watch v) view = (view ≡ shown_answer (asked_of v) (watching v.holds)) × IsAsked shards (asked_of v)
 IsShownFlow shards (Care v) view = (view ≡ shows v) × IsCareThere shards v
 
 -- so is what is in a slot

@@ -13,9 +13,6 @@ rest_of xs n = take_all (length xs - n) (drop n xs) (omega (arith, length-drop n
 pub fits : (xs : List ℕ) (n k : ℕ) → n ≤ length xs → k ≤ length (take (length xs - n) (drop n xs)) → n + k ≤ length xs
 fits xs n k within h = omega (arith, within, h, ap length (rest_of xs n), length-drop n xs)
 
-pub begun_part : (before after : Option (List ℕ)) (bytes : List ℕ) (n : ℕ) → Appends before after (take n bytes) → HasBegun before after bytes
-begun_part before after bytes n h = record { sent = take n bytes; unsent = drop n bytes; whole = sym (take-append-drop n bytes); written = h }
-
 module _ (before mid after : Option (List ℕ)) (bytes : List ℕ) (n : ℕ) where
   pub wrote_more : (k : ℕ) → Appends before mid (take n bytes) → Appends mid after (take k (take (length bytes - n) (drop n bytes))) → Appends before after (take (n + k) bytes)
   wrote_more k first more =

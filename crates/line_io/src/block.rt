@@ -1,14 +1,15 @@
 // What is read and taken of a block.
-ghost use Rattle.std.specs.Prelude.{◌≡◌, ◌<◌, ◌↔◌, [], List, ℕ, IfOk, OnOk, OnErr, IsTrue};
+ghost use Rattle.std.specs.Prelude.{◌≡◌, ◌<◌, ◌↔◌, [], List, ℕ, IfErr, IfOk, OnOk, OnErr, IsTrue};
 ghost use Rattle.std.specs.Io.KnownBytes.{Consumes, IsAtEnd, Keeps};
 ghost use Rattle.line_io.specs.Lines.{HasNoFeed, Holds};
 ghost use Rattle.line_io.specs.Blocks.{unread as unread_of, Refills, TakesPart};
 
 use crate::held::{BLOCK, Block};
 use crate::line::Line;
+use crate::telling::Reader;
 use memchr::memchr;
 use std::alloc::{AllocError, Global};
-use std::io::{self, Read};
+use std::io;
 
 impl Block {
     pub fn new(alloc: Global) -> Result<Block, AllocError>
@@ -44,21 +45,23 @@ impl Block {
     }
 
     // Reads the next bytes in place of those that are there; none are read at the end of input alone.
-    fn fill<R: Read>(&mut self, input: &mut R) -> io::Result<()>
+    fn fill<R: Reader>(&mut self, input: &mut R) -> io::Result<()>
         ensures ok { OnOk result (Consumes (R.remaining input.old) (R.remaining input.new) (unread_of self.new)) }
         ensures end { OnOk result (unread_of self.new ≡ [] → IsAtEnd (R.remaining input.new)) }
         ensures err { OnErr result (Keeps (R.remaining input.old) (R.remaining input.new)) }
+        ensures told { IfErr result R.tells }
     {
         self.taken = 0;
         self.filled = 0;
-        self.filled = input.read(&mut self.bytes)?;
+        self.filled = input.read_part(&mut self.bytes)?;
         Ok(())
     }
 
     /// Reads the next bytes where all were taken. Whether there are any: none at the end of input.
-    pub fn refill<R: Read>(&mut self, input: &mut R) -> io::Result<bool>
+    pub fn refill<R: Reader>(&mut self, input: &mut R) -> io::Result<bool>
         ensures ok { IfOk result (λ has. Refills has (R.remaining input.old) (R.remaining input.new) (unread_of self.old) (unread_of self.new)) }
         ensures err { OnErr result (Keeps (R.remaining input.old) (R.remaining input.new)) }
+        ensures told { IfErr result R.tells }
     {
         if !self.is_empty() {
             return Ok(true);

@@ -1,18 +1,24 @@
 -- A care of a shared store goes on to hold what is of the list and of the horizon, turn by turn.
 use Rattle.std.proofs.Common.{ℕ, List, Bool}
 use Rattle.locked.proofs.Words.{Entry, IsCareOf, Known, Turns}
+use Rattle.calls.specs.Flows.{IfNext}
+use Rattle.calls.specs.declared.call.NodeCall.{NodeCall}
+use Rattle.calls.specs.declared.progress.Progress.{Progress}
+use Rattle.calls.specs.declared.progress.Progress.TheVariants.{Next, Ended}
+use Rattle.care_flow.specs.declared.care.CareCall.{CareCall}
 use Rattle.care_flow.specs.declared.care.CareFlow.{CareFlow}
-use Rattle.care_flow.specs.Cares.{AsksCare, GivesCare}
+use Rattle.care_flow.specs.declared.end.CareEnd.{CareEnd}
+use Rattle.care_flow.specs.Cares.{AsksCare, MakesCare, while_out}
 use Rattle.flow_ties.specs.Cares.{CareTurns}
 use Rattle.flow_ties.proofs.SeenCares.{cares_go_on}
 
--- what it holds behind a turn is of them
-pub care_goes_on : (rests : Type 0) (shards : ℕ) (old new : Known Entry) (marks later : List Bool) (v after : CareFlow) → IsCareOf old.seen old.horizon v → Turns AsksCare rests GivesCare shards old new marks later v after
-    → rests → IsCareOf new.seen new.horizon after
-care_goes_on rests shards old new marks later v after is t h =
-    let turn : CareTurns shards new.seen new.horizon v after = record {
+-- what it holds after a turn is of them
+pub care_goes_on : (rests : Type 0) (shards : ℕ) (old new : Known Entry) (marks later_marks : List Bool) (v : CareFlow) (made : Progress CareFlow CareEnd) → IsCareOf old.seen old.horizon v
+    → Turns (λ (f : CareFlow) (call : NodeCall) (out : CareCall). AsksCare f call (while_out out)) rests MakesCare shards old new marks later_marks v made → rests → IfNext made (IsCareOf new.seen new.horizon)
+care_goes_on rests shards old new marks later_marks v (Next later) is t h =
+    let turn : CareTurns shards new.seen new.horizon v later = record {
       call = t.call;
-      out = t.out;
+      out = while_out t.out;
       reply = t.reply;
       asks = t.asked;
       belongs = t.serves.belongs;
@@ -20,4 +26,5 @@ care_goes_on rests shards old new marks later v after is t h =
       tells = t.serves.care h;
       gives = t.given;
     } in
-    cares_go_on shards old.seen new.seen old.horizon new.horizon v after t.serves.later.seen t.serves.later.horizon is turn
+    cares_go_on shards old.seen new.seen old.horizon new.horizon v later t.serves.later.seen t.serves.later.horizon is turn
+care_goes_on rests shards old new marks later_marks v (Ended end) is t h = tt

@@ -4,7 +4,7 @@ use Rattle.locked.proofs.Words.{Entry, exact, Freshness, HasReason, IsAsAsked, I
 use Rattle.calls.specs.Refusing.{HasTold}
 use Rattle.decisions.specs.Flows.{at_least, latest}
 use Rattle.flow_ties.specs.Refusing.{IsPlaceRefused}
-use Rattle.locked.specs.Answering.{IsNotThere, IsPassed}
+use Rattle.locked.specs.Answering.{IsAhead, IsNotThere, IsPassed}
 use Rattle.refusal.specs.declared.refusal.Refusal.TheVariants.{Collected}
 
 -- above what was published, which is no less than what had been seen, a place that is as asked is as fresh as asked
@@ -34,6 +34,12 @@ reason_of_less asked less more seen low marks e le why = ⊎_elim
     (λ told. inl told)
     (λ rest. inr (⊎_elim (λ memory. inl memory) (λ place. inr (not_there_of_less asked less more seen low e le place)) rest))
     why
+
+-- a place that is as fresh as asked lies above a horizon that had been seen, if that has not passed the one place that will do
+pub fresh_is_kept : (asked : Freshness) (low before place : ℕ) → low ≤ before → IsAhead asked low → IsFresh asked before place → low ≤ place
+fresh_is_kept latest low before place le ahead is = omega (arith, le, is)
+fresh_is_kept (at_least z) low before place le ahead is = omega (arith, le, is.1)
+fresh_is_kept (exact z) low before place le ahead is = omega (arith, ahead, is)
 
 -- just one place that the horizon has passed is not there
 pub passed_is_not_there : (asked : Freshness) (before low : ℕ) (seen : List Entry) → IsPassed asked low → IsNotThere asked before seen low Collected

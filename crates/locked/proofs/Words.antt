@@ -10,6 +10,7 @@ pub use Rattle.calls.specs.declared.call.ShardCall.{ShardCall}
 pub use Rattle.calls.specs.declared.call.ShardCall.TheVariants.{Checkpoint, Flush}
 pub use Rattle.calls.specs.declared.reply.Reply.{Reply}
 pub use Rattle.calls.specs.declared.reply.Reply.TheVariants.{Coordinator as from_coordinator}
+pub use Rattle.calls.specs.declared.progress.Progress.{Progress}
 pub use Rattle.commit_flow.specs.Flows.{WriteFlowValue}
 pub use Rattle.decisions.specs.Flows.{exact, Freshness}
 pub use Rattle.flights.specs.Serving.{KnowsMore, Serves}

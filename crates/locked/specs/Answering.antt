@@ -9,17 +9,19 @@ use Rattle.tuples.specs.declared.tupleset.Tupleset.{Tupleset}
 use Rattle.tuples.specs.declared.user.User.{User}
 use Rattle.tuples.specs.Watching.{Placed}
 use Rattle.decisions.specs.Flows.{Freshness, at_least, exact, latest}
-use Rattle.answer_flow.specs.CheckViews.{CheckEnding, CheckFlowValue, checked, refused as check_refused}
-use Rattle.answer_flow.specs.ReadViews.{ReadEnding, ReadFlowValue, refused as read_refused, selected}
+use Rattle.answer_flow.specs.CheckViews.{CheckEnding, CheckFlowValue, checked, refused as check_refused, seen_of}
+use Rattle.answer_flow.specs.ReadViews.{IsAsked, ReadEnding, ReadFlowValue, refused as read_refused, seen_after, selected}
+use Rattle.answer_flow.specs.declared.read_phase.ReadDone.{ReadDone}
 use Rattle.answer_flow.specs.WatchViews.{WatchEnding, listed, refused as watch_refused}
 use Rattle.calls.specs.Refusing.{HasTold}
+use Rattle.calls.specs.declared.progress.Progress.{Progress}
 use Rattle.flow_ties.specs.Checks.{IsCheckOf, IsMembershipAt, IsTooFar}
-use Rattle.flow_ties.specs.Reads.{AreRowsAt, IsReadOf}
+use Rattle.flow_ties.specs.Reads.{AreRowsAt, IsReadOf, ReadHasReason}
 use Rattle.flow_ties.specs.Refusing.{HasReason}
 use Rattle.flow_ties.specs.Telling.{IsAsAsked}
 use Rattle.flow_ties.specs.Watches.{AreEventsTo}
 
--- The place is one that was asked for. Where any later one would do too, it is no less than what had been seen.
+-- The place is one that was asked for. If any later one would do too, it is no less than what had been seen.
 abbrev pub IsFresh : Freshness → ℕ → ℕ → Type 0
 IsFresh latest before place = before ≤ place
 IsFresh (at_least z) before place = (z ≤ place) × (before ≤ place)
@@ -49,29 +51,36 @@ IsJustOne latest = ⊥
 IsJustOne (at_least z) = ⊥
 IsJustOne (exact z) = Unit {0}
 
+-- if just one place will do, it does not lie below a horizon
+abbrev pub IsAhead : Freshness → ℕ → Type 0
+IsAhead latest low = Unit {0}
+IsAhead (at_least z) low = Unit {0}
+IsAhead (exact z) low = low ≤ z
+
 -- just one place will do, and it lies below a horizon
 abbrev pub IsPassed : Freshness → ℕ → Type 0
 IsPassed latest low = ⊥
 IsPassed (at_least z) low = ⊥
 IsPassed (exact z) low = z < low
 
--- so much of the list had been seen before it, and what it holds is so where the store rested when it was opened
+-- so much of the list had been seen before it, and what it holds is so if the store rested when it was opened
 module _ (rests : Type 0) (shards : ℕ) (seen : List Entry) (asked : Freshness) (before : ℕ) where
-  -- a read of these tuplesets on its way, of the list, at a place as fresh as asked
-  pub record ReadRuns (sets : List Tupleset) (flow : ReadFlowValue) : Type 0 where
-    pub of : flow.shards ≡ shards
-    pub asked_sets : flow.sets ≡ sets
-    pub narrows : Narrows flow.fresh asked before
-    pub beyond : LiesBeyond flow.fresh asked (length seen)
-    pub held : rests → IsReadOf shards seen flow.fresh sets flow.seen
+  -- A read of these tuplesets that begins, of the list, at a place as fresh as asked. If it ends at once it has a reason.
+  pub record ReadRuns (low : ℕ) (sets : List Tupleset) (begun : Progress ReadFlowValue ReadDone) : Type 0 where
+    pub fresh : Freshness
+    pub of : IsAsked shards fresh sets begun
+    pub narrows : Narrows fresh asked before
+    pub beyond : LiesBeyond fresh asked (length seen)
+    pub held : rests → IsReadOf shards seen fresh sets (seen_after begun)
+    pub reason : (marks : List Bool) → ReadHasReason marks fresh seen low (seen_after begun)
 
-  -- a check of this userset, about this user
+  -- a check of this userset that begins, about this user
   pub record CheckRuns (x : Userset) (u : User) (flow : CheckFlowValue) : Type 0 where
     pub of : flow.shards ≡ shards
     pub user : flow.user ≡ u
     pub narrows : Narrows flow.fresh asked before
     pub beyond : LiesBeyond flow.fresh asked (length seen)
-    pub held : rests → IsCheckOf seen flow.fresh x u flow.seen
+    pub held : rests → IsCheckOf seen flow.fresh x u (seen_of flow)
 
 -- Rows of each tupleset, if it ends with any, are those that it selects of the list at the place that is told, which is as fresh as asked.
 abbrev pub ReadEnds : List Entry → Freshness → ℕ → List Tupleset → ReadEnding → Type 0
@@ -81,9 +90,20 @@ ReadEnds seen asked before sets end = (place : ℕ) (done : List (List Tuple)) �
 abbrev pub CheckEnds : List Entry → Freshness → ℕ → Userset → User → CheckEnding → Type 0
 CheckEnds seen asked before x u end = (place : ℕ) (answer : Bool) → end ≡ checked place answer → IsFresh asked before place × IsMembershipAt seen asked x u place answer
 
--- the changes, if it lists any, are all that there are behind its cursor up to the place that is told
+-- the changes, if it lists any, are all that there are after its cursor up to the place that is told
 abbrev pub WatchEnds : ℕ → ℕ → List (List ℕ) → ℕ → List Entry → WatchEnding → Type 0
 WatchEnds cursor limit names before seen end = (place : ℕ) (changes : List Placed) → end ≡ listed place changes → AreEventsTo cursor limit names before seen place changes
+
+-- The place that is told, if there is one, does not lie below a horizon.
+module _ (low : ℕ) where
+  abbrev pub ReadIsKept : ReadEnding → Type 0
+  ReadIsKept end = (place : ℕ) (done : List (List Tuple)) → end ≡ selected place done → low ≤ place
+
+  abbrev pub CheckIsKept : CheckEnding → Type 0
+  CheckIsKept end = (place : ℕ) (answer : Bool) → end ≡ checked place answer → low ≤ place
+
+  abbrev pub WatchIsKept : WatchEnding → Type 0
+  WatchIsKept end = (place : ℕ) (changes : List Placed) → end ≡ listed place changes → low ≤ place
 
 -- Given which refusals were told, and the list and the horizon that its caller has then seen
 module _ (marks : List Bool) (seen : List Entry) (low : ℕ) where

@@ -12,12 +12,12 @@ found_coordinator state [] = empty_coordinator
 found_coordinator state (a ∷ []) = empty_coordinator
 found_coordinator state (a ∷ b ∷ rest) = coordinator_state (or_none (found (state a).seen (state b).seen))
 
--- The devices of a coordinator that knows this rest at the list, of which it knows what is behind its base: a stop leaves of the coordinator's that list, and
+-- The devices of a coordinator that knows this rest at the list, of which it knows what comes after its base: a stop leaves of the coordinator's that list, and
 -- perhaps more, and of each shard's its rows of it.
 pub record RestsWith {D : Type 0} (state : D → State) (honest : D → Type 0) (shards : ℕ) (first : List Entry) (devices : List D) (known : CoordinatorState) : Type 0 where
   pub decisions : known.log ≡ drop known.base first
   pub rests : RestAt state honest shards first known.horizon devices
 
--- The devices rest at the list, as they read. Where the coordinator has forgotten nothing, as before its first checkpoint, that is the list of its decisions.
+-- The devices rest at the list, as they read. If the coordinator has forgotten nothing, as before its first checkpoint, that is the list of its decisions.
 abbrev pub IsAtRest : {D : Type 0} → (D → State) → (D → Type 0) → ℕ → List Entry → List D → Type 0
 IsAtRest state honest shards first devices = RestsWith state honest shards first devices (found_coordinator state devices)

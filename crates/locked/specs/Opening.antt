@@ -23,7 +23,7 @@ pub record RestAt {D : Type 0} (state : D → State) (honest : D → Type 0) (sh
   pub coordinator : (any : D) → Anywhere state honest (slice_index_or devices 0 any) (slice_index_or devices 1 any) first low []
   pub each_shard : (k : ℕ) (any : D) → k < shards → RowsAnywhere state honest shards k (slice_index_or devices (2 * k + 2) any) (slice_index_or devices (2 * k + 3) any) first low
 
--- A pass knows what was found where a store rested at the list: that list, perhaps with more behind it, and no lower horizon.
+-- A pass knows what was found if a store rested at the list: that list, perhaps with more after it, and no lower horizon.
 abbrev pub HasFound : List Entry → ℕ → Known Entry → Type 0
 HasFound first low known = IsPrefix first known.seen × (low ≤ known.horizon)
 

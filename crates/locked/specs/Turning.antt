@@ -23,15 +23,15 @@ TellsBehind (Shard (Read set rows)) = AreBehind rows
 TellsBehind (Shard (ReadForCheck x u rows)) = AreBehind rows
 TellsBehind reply = ⊥
 
-module _ {F : Type 0} (asks : F → NodeCall → F → Type 0) where
+module _ {F O : Type 0} (asks : F → NodeCall → O → Type 0) where
   -- whichever call it makes, what it hands to a shard is of what the caller has seen
   abbrev pub HandsWhatIsSeen : Known Entry → F → Type 0
-  HandsWhatIsSeen pass v = (call : NodeCall) (out : F) → asks v call out → HandsOver pass.seen pass.horizon call
+  HandsWhatIsSeen pass v = (call : NodeCall) (out : O) → asks v call out → HandsOver pass.seen pass.horizon call
 
   -- A turn: its call, the reply, which tells what is of the list that the caller has then seen, and what it makes of that.
-  pub record Turns (rests : Type 0) (gives : F → Reply → F → Type 0) (shards : ℕ) (old new : Known Entry) (marks later_marks : List Bool) (v after : F) : Type 0 where
+  pub record Turns {L : Type 0} (rests : Type 0) (gives : O → Reply → L → Type 0) (shards : ℕ) (old new : Known Entry) (marks later_marks : List Bool) (v : F) (after : L) : Type 0 where
     pub call : NodeCall
-    pub out : F
+    pub out : O
     pub reply : Reply
     pub asked : asks v call out
     pub serves : Serves rests shards old new call reply

@@ -1,9 +1,10 @@
 // One turn of what runs over the nodes: its next call, at the node that the call names, and the reply.
 ghost use Rattle.std.specs.Prelude.{◌≡◌, ◌↔◌, IsTrue, true, is_some};
+ghost use Rattle.calls.specs.Flows.{IfNext};
 ghost use Rattle.locked.specs.Turning.{AreBehind, HandsWhatIsSeen, TellsBehind, Turns};
 
 use crate::{Caller, Gate, Store};
-use calls::{Reply, Running, ShardReply, Told};
+use calls::{Flow, Progress, Reply, Running, ShardReply, Told};
 use device::Device;
 use shard::ReadReply;
 use sides::Room;
@@ -57,5 +58,24 @@ impl<D: Device, B: Room, G: Gate> Store<D, B, G> {
         let is_behind = is_behind(&reply);
         flow.give(reply);
         is_behind
+    }
+
+    /// The turn of a flow that it spends.
+    pub(crate) fn spend<F: Flow, R: Wait>(
+        &self,
+        rt: &R,
+        caller: &mut Caller<B>,
+        told: &mut Told,
+        flow: F,
+    ) -> (Progress<F, F::End>, bool)
+        requires of { F.is_of B.shards flow }
+        requires hands { B.rests → HandsWhatIsSeen F.asks caller.old.pass flow }
+        ensures turns { Turns F.asks B.rests F.gives B.shards caller.old.pass caller.new.pass told.old told.new flow result.0 }
+        ensures of { IfNext result.0 (F.is_of B.shards) }
+    {
+        let (call, out) = flow.next_call();
+        let reply = self.make(rt, caller, told, call);
+        let is_behind = is_behind(&reply);
+        (F::give(out, reply), is_behind)
     }
 }

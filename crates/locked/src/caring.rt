@@ -1,12 +1,10 @@
 // Cares of a shared store's nodes.
-ghost use Rattle.std.specs.Prelude.{◌≡◌, true, is_some};
-ghost use Rattle.care_flow.specs.Cares.{IsThere, begun, end_of, has_next};
-ghost use Rattle.care_flow.specs.Views.{GoesOrEnds};
+ghost use Rattle.care_flow.specs.Cares.{IsThere, begun};
 ghost use Rattle.flow_ties.specs.Cares.{IsCareOf};
 ghost use Rattle.sides.specs.Sides.{IsLater};
 
 use crate::{Caller, Gate, Store};
-use calls::Told;
+use calls::{Progress, Told};
 use care_flow::{CareEnd, CareFlow};
 use device::Device;
 use names::Care;
@@ -22,18 +20,17 @@ impl<D: Device, B: Room, G: Gate> Store<D, B, G> {
         caller: &mut Caller<B>,
         told: &mut Told,
         mut flow: CareFlow,
-    ) -> CareFlow
+    ) -> CareEnd
         requires of { IsThere B.shards flow }
         requires held { B.rests → IsCareOf caller.old.pass.seen caller.old.pass.horizon flow }
-        requires goes { GoesOrEnds (has_next flow) (end_of flow) }
         ensures caller { IsLater caller.old.pass caller.new.pass }
-        ensures ended { is_some (end_of result) ≡ true }
     {
         for _ in rt.forever() {
-            if flow.next_name().is_none() {
-                return flow;
+            let (after, _) = self.spend(rt, caller, told, flow);
+            match after {
+                Progress::Next(later) => flow = later,
+                Progress::Ended(end) => return end,
             }
-            self.turn(rt, caller, told, &mut flow);
         }
         unreachable!()
     }
@@ -52,10 +49,6 @@ impl<D: Device, B: Room, G: Gate> Store<D, B, G> {
         ensures caller { IsLater caller.old.pass caller.new.pass }
     {
         let flow = CareFlow::new(alloc, self.count, care);
-        let flow = self.run_care(rt, caller, told, flow);
-        match flow.finish() {
-            Some(end) => end,
-            None => unreachable!(),
-        }
+        self.run_care(rt, caller, told, flow)
     }
 }

@@ -1,35 +1,20 @@
 // Checks of a shared store.
-ghost use Rattle.std.specs.Prelude.{◌≡◌, Bool, List, length, None, Some, IfOk, false};
+ghost use Rattle.std.specs.Prelude.{◌≡◌, length, IfOk, false};
 ghost use Rattle.answer_flow.specs.Checking.{HastensCheck};
-ghost use Rattle.answer_flow.specs.CheckViews.{ending_of};
+ghost use Rattle.answer_flow.specs.CheckViews.{IsAsked, ended, ending_of, seen_after, seen_of};
 ghost use Rattle.flow_ties.specs.Checks.{CheckHasReason, IsCheckOf};
 ghost use Rattle.sides.specs.Sides.{IsLater};
-ghost use Rattle.locked.specs.Answering.{CheckEnds, CheckRefuses, CheckRuns, IsJustOne, IsPassed};
+ghost use Rattle.locked.specs.Answering.{CheckEnds, CheckIsKept, CheckRefuses, CheckRuns, IsJustOne, IsPassed};
 
 use crate::placing::is_exact;
 use crate::{Caller, Gate, Store};
-use answer_flow::{CheckEnd, CheckFlow};
-use calls::Told;
+use answer_flow::{CheckDone, CheckEnd, CheckFlow};
+use calls::{Progress, Told};
 use device::Device;
 use sides::Room;
 use std::alloc::{AllocError, Global};
 use std::sync::Wait;
 use tuples::{Freshness, Refusal, User, Userset};
-
-// What it ended with, and the user that it was asked about; it has ended.
-fn ended(flow: CheckFlow) -> (CheckEnd, User)
-    requires named { flow.next_name ≡ None }
-    requires rests { flow.seen.awaited ≡ None }
-    ensures end { Some (ending_of result.0) ≡ flow.seen.ended }
-    ensures user { result.1 ≡ flow.user }
-{
-    let _name = flow.next_name();
-    let (end, user) = flow.into_parts();
-    match end {
-        Some(end) => (end, user),
-        None => unreachable!(),
-    }
-}
 
 // Whether it ended since the horizon had passed its place meanwhile, though a later one would do.
 fn begins_again(freshness: Freshness, end: &CheckEnd) -> bool
@@ -45,13 +30,14 @@ fn begins_again(freshness: Freshness, end: &CheckEnd) -> bool
 }
 
 // A shard is read at once, unless it has just told that it has not learned so far.
-fn hasten(flow: &mut CheckFlow, is_behind: bool)
-    ensures asked { flow.new ≡ record flow.old { seen = flow.new.seen; next_name = flow.new.next_name } }
-    ensures hastens { HastensCheck flow.old.seen flow.new.seen }
+fn hasten(flow: CheckFlow, is_behind: bool) -> Progress<CheckFlow, CheckDone>
+    ensures asked { IsAsked flow.shards flow.fresh flow.user result }
+    ensures hastens { HastensCheck (seen_of flow) (seen_after result) }
 {
-    if !is_behind {
-        flow.read_at_once();
+    if is_behind {
+        return Progress::Next(flow);
     }
+    flow.read_at_once()
 }
 
 impl<D: Device, B: Room, G: Gate> Store<D, B, G> {
@@ -66,8 +52,6 @@ impl<D: Device, B: Room, G: Gate> Store<D, B, G> {
     ) -> Result<CheckFlow, AllocError>
         ensures caller { IsLater caller.old.pass caller.new.pass }
         ensures runs { IfOk result (λ flow. CheckRuns B.rests B.shards caller.new.pass.seen freshness (length caller.old.pass.seen) userset.now user flow) }
-        ensures rests { IfOk result (λ flow. flow.seen.awaited ≡ None) }
-        ensures reason { (marks : List Bool) → IfOk result (λ flow. CheckHasReason marks flow.fresh caller.new.pass.seen caller.new.pass.horizon userset.now flow.seen) }
     {
         let count = self.shards();
         match self.known_place(caller, freshness) {
@@ -84,26 +68,27 @@ impl<D: Device, B: Room, G: Gate> Store<D, B, G> {
         told: &mut Told,
         userset: &Userset,
         mut flow: CheckFlow,
-    ) -> CheckFlow
+    ) -> CheckDone
         requires of { flow.shards ≡ B.shards }
-        requires held { B.rests → IsCheckOf caller.old.pass.seen flow.fresh userset.now flow.user flow.seen }
-        requires rests { flow.seen.awaited ≡ None }
-        requires reason { B.rests → CheckHasReason told.old flow.fresh caller.old.pass.seen caller.old.pass.horizon userset.now flow.seen }
+        requires held { B.rests → IsCheckOf caller.old.pass.seen flow.fresh userset.now flow.user (seen_of flow) }
         ensures caller { IsLater caller.old.pass caller.new.pass }
-        ensures held { B.rests → IsCheckOf caller.new.pass.seen flow.fresh userset.now flow.user result.seen }
+        ensures held { B.rests → IsCheckOf caller.new.pass.seen flow.fresh userset.now flow.user (ended (ending_of result.end)) }
         ensures user { result.user ≡ flow.user }
-        ensures named { result.next_name ≡ None }
-        ensures rests { result.seen.awaited ≡ None }
-        ensures reason { B.rests → CheckHasReason told.new flow.fresh caller.new.pass.seen caller.new.pass.horizon userset.now result.seen }
+        ensures reason { B.rests → CheckHasReason told.new flow.fresh caller.new.pass.seen caller.new.pass.horizon userset.now (ended (ending_of result.end)) }
     {
         let _asked = userset;
         let mut is_behind = false;
         for _ in rt.forever() {
-            hasten(&mut flow, is_behind);
-            if flow.next_name().is_none() {
-                return flow;
+            let hastened = match hasten(flow, is_behind) {
+                Progress::Next(hastened) => hastened,
+                Progress::Ended(done) => return done,
+            };
+            let (after, tells_behind) = self.spend(rt, caller, told, hastened);
+            is_behind = tells_behind;
+            match after {
+                Progress::Next(later) => flow = later,
+                Progress::Ended(done) => return done,
             }
-            is_behind = self.turn(rt, caller, told, &mut flow);
         }
         unreachable!()
     }
@@ -118,17 +103,14 @@ impl<D: Device, B: Room, G: Gate> Store<D, B, G> {
         freshness: Freshness,
         userset: &Userset,
         user: User,
-    ) -> Result<(CheckEnd, User), AllocError>
+    ) -> Result<CheckDone, AllocError>
         ensures caller { IsLater caller.old.pass caller.new.pass }
-        ensures answer { B.rests → IfOk result (λ made. CheckEnds caller.new.pass.seen freshness (length caller.old.pass.seen) userset.now user (ending_of made.0)) }
-        ensures refused { B.rests → IfOk result (λ made. CheckRefuses told.new caller.new.pass.seen caller.new.pass.horizon freshness (length caller.old.pass.seen) userset.now (ending_of made.0)) }
-        ensures user { IfOk result (λ made. made.1 ≡ user) }
+        ensures answer { B.rests → IfOk result (λ done. CheckEnds caller.new.pass.seen freshness (length caller.old.pass.seen) userset.now user (ending_of done.end)) }
+        ensures refused { B.rests → IfOk result (λ done. CheckRefuses told.new caller.new.pass.seen caller.new.pass.horizon freshness (length caller.old.pass.seen) userset.now (ending_of done.end)) }
+        ensures user { IfOk result (λ done. done.user ≡ user) }
     {
         match self.begin_check(alloc, caller, freshness, userset, user) {
-            Ok(flow) => {
-                let flow = self.run_check(rt, caller, told, userset, flow);
-                Ok(ended(flow))
-            }
+            Ok(flow) => Ok(self.run_check(rt, caller, told, userset, flow)),
             Err(error) => Err(error),
         }
     }
@@ -150,6 +132,7 @@ impl<D: Device, B: Room, G: Gate> Store<D, B, G> {
     ) -> CheckEnd
         ensures caller { IsLater caller.old.pass caller.new.pass }
         ensures answer { B.rests → CheckEnds caller.new.pass.seen freshness (length caller.old.pass.seen) userset.now user (ending_of result) }
+        ensures kept { B.rests → CheckIsKept caller.old.pass.horizon (ending_of result) }
         ensures refused { B.rests → CheckRefuses told.new caller.new.pass.seen caller.new.pass.horizon freshness (length caller.old.pass.seen) userset.now (ending_of result) }
         ensures passed { IsPassed freshness caller.old.pass.horizon → result ≡ CheckEnd.Refused Refusal.Collected }
         ensures collected { result ≡ CheckEnd.Refused Refusal.Collected → IsJustOne freshness }
@@ -160,13 +143,12 @@ impl<D: Device, B: Room, G: Gate> Store<D, B, G> {
         let mut user = user;
         for _ in rt.forever() {
             match self.try_check(rt, alloc, caller, told, freshness, userset, user) {
-                Ok((end, asked)) => {
-                    if !begins_again(freshness, &end) {
-                        drop(asked);
-                        return end;
+                Ok(done) => {
+                    if !begins_again(freshness, &done.end) {
+                        return done.end;
                     }
                     told.begin_again();
-                    user = asked;
+                    user = done.user;
                 }
                 Err(_) => return CheckEnd::Refused(Refusal::NoMemory),
             }

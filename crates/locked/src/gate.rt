@@ -1,7 +1,7 @@
 // Who is told of the calls of a store's nodes.
 use names::{CallName, NodeName};
 
-/// Is told of each call of a node that a caller makes, outside of all locks: before the call, which may have to wait for the node, and behind it.
+/// Is told of each call of a node that a caller makes, outside of all locks: before the call, which may have to wait for the node, and after it.
 pub trait Gate: Drop {
     /// A call is about to be made.
     fn before(&self, node: NodeName, call: CallName);

@@ -37,7 +37,7 @@ impl LookedOver {
 }
 
 impl<D: Device, B: Room, G: Gate> Store<D, B, G> {
-    // How far the shard of this number has learned; where its opening was refused, that refusal.
+    // How far the shard of this number has learned; if its opening was refused, that refusal.
     fn learned<R: Wait>(
         &self,
         rt: &R,
@@ -56,7 +56,7 @@ impl<D: Device, B: Room, G: Gate> Store<D, B, G> {
         }
     }
 
-    // How far each shard has learned, behind what stands there.
+    // How far each shard has learned, after what stands there.
     fn learned_by_all<R: Wait>(
         &self,
         rt: &R,

@@ -1,7 +1,7 @@
 // Who is told of what has befallen the nodes of a store that is tended.
 use names::NodeName;
 
-/// Is told by whoever tends a store, outside of all locks, of what befalls its nodes: that one is down, once a round until the node is opened again, or
+/// Is told by the thread that tends a store, outside of all locks, of what befalls its nodes: that one is down, once a round until the node is opened again, or
 /// has no room for a checkpoint.
 pub trait Notice: Drop {
     /// The node refused its flush, since a call of one of its devices failed.

@@ -176,7 +176,7 @@ fn open_nodes<D: Device + Send, B: Room + Send, R: Threads + Sync>(
     ensures all { IfOk result (λ opened. vec_len opened.2 ≡ B.shards) }
     ensures refused { IfErr result (RefusesStore D.state D.honest D.moment D.left_since B.store B.shards devices.old.items) }
 {
-    // Taken first, while there is little to let go where there is no memory for it.
+    // Taken first, while there is little to let go if there is no memory for it.
     let room = BatchRoom::new(ground.alloc)?;
     let mut side = open_coordinator(ground, log, tried, devices)?;
     let caller = side.session(ground.lists);
@@ -196,7 +196,7 @@ fn open_nodes<D: Device + Send, B: Room + Send, R: Threads + Sync>(
 
 impl<D: Device, B: Room, G: Gate> Store<D, B, G> {
     /// Opens the store with this id and of 1 to 64 shards over its devices: those of the coordinator, and then those of each shard, by rising number, bank a
-    /// before bank b. Where they rest at a list, all that is said of the list is said of that one and of what joins it. A shard whose opening is refused
+    /// before bank b. If they rest at a list, all that is said of the list is said of that one and of what joins it. A shard whose opening is refused
     /// holds that refusal, and can be restarted; that of the coordinator's opening, or `NoMemory`, refuses the store. With it comes a first caller, which knows
     /// what was found, and can tell the others. Shards are opened side by side.
     pub fn open<R: Threads + Sync>(

@@ -1,7 +1,7 @@
 // The place of an answer that needs no call of the coordinator.
 ghost use Rattle.std.specs.Prelude.{◌≡◌, ◌≤◌, ◌<◌, length, true, false, IfSome, IfNone};
 ghost use Rattle.sides.specs.Sides.{IsLater};
-ghost use Rattle.locked.specs.Answering.{IsBeyond, IsFresh, IsJustOne, IsPassed};
+ghost use Rattle.locked.specs.Answering.{IsAhead, IsBeyond, IsFresh, IsJustOne, IsPassed};
 
 use crate::{Caller, Gate, Store};
 use device::Device;
@@ -19,7 +19,7 @@ pub(crate) fn is_exact(freshness: Freshness) -> bool
 }
 
 impl<D: Device, B: Room, G: Gate> Store<D, B, G> {
-    /// The place of an answer that is as fresh as asked, by the published word. None where what is asked for lies above that.
+    /// The place of an answer that is as fresh as asked, by the published word. None if what is asked for lies above that.
     pub(crate) fn known_place(&self, caller: &mut Caller<B>, freshness: Freshness) -> Option<u64>
         ensures caller { IsLater caller.old.pass caller.new.pass }
         ensures there { IfSome result (λ place. place ≤ length caller.new.pass.seen) }
@@ -34,14 +34,18 @@ impl<D: Device, B: Room, G: Gate> Store<D, B, G> {
             Freshness::AtLeast(_) | Freshness::Exact(_) => None,
         }
     }
-    /// Whether just one place will do, and the horizon has passed it, by one load where it is just one.
+
+    /// Whether just one place will do, and the horizon has passed it, by one load. The caller has then seen at least as many writes as the horizon.
     pub(crate) fn has_passed(&self, caller: &mut Caller<B>, freshness: Freshness) -> bool
         ensures caller { IsLater caller.old.pass caller.new.pass }
+        ensures seen { caller.old.pass.horizon ≤ length caller.new.pass.seen }
         ensures passed { result ≡ true → IsPassed freshness caller.new.pass.horizon }
         ensures ahead { result ≡ false → IsPassed freshness caller.old.pass.horizon → ⊥ }
+        ensures kept { result ≡ false → IsAhead freshness caller.old.pass.horizon }
     {
+        let horizon = self.horizon(caller);
         match freshness {
-            Freshness::Exact(place) => place < self.horizon(caller),
+            Freshness::Exact(place) => place < horizon,
             Freshness::Latest | Freshness::AtLeast(_) => false,
         }
     }

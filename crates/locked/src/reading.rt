@@ -1,35 +1,20 @@
 // Reads of a shared store.
-ghost use Rattle.std.specs.Prelude.{◌≡◌, Bool, List, length, None, Some, false};
-ghost use Rattle.answer_flow.specs.ReadViews.{ending_of};
+ghost use Rattle.std.specs.Prelude.{◌≡◌, length, false};
+ghost use Rattle.answer_flow.specs.ReadViews.{ended, ending_of, seen_of};
 ghost use Rattle.answer_flow.specs.Reading.{HastensRead};
 ghost use Rattle.flow_ties.specs.Reads.{IsReadOf, ReadHasReason};
 ghost use Rattle.sides.specs.Sides.{IsLater};
-ghost use Rattle.locked.specs.Answering.{IsJustOne, IsPassed, ReadEnds, ReadRefuses, ReadRuns};
+ghost use Rattle.locked.specs.Answering.{IsJustOne, IsPassed, ReadEnds, ReadIsKept, ReadRefuses, ReadRuns};
 
 use crate::placing::is_exact;
 use crate::{Caller, Gate, Store};
-use answer_flow::{ReadEnd, ReadFlow};
-use calls::Told;
+use answer_flow::{ReadDone, ReadEnd, ReadFlow};
+use calls::{Progress, Told};
 use device::Device;
 use sides::Room;
 use std::alloc::Global;
 use std::sync::Wait;
 use tuples::{Freshness, Refusal, Tupleset};
-
-// What it ended with, and the tuplesets that it was asked for; it has ended.
-fn ended(flow: ReadFlow) -> (ReadEnd, Vec<Tupleset>)
-    requires named { flow.next_name ≡ None }
-    requires rests { flow.seen.awaited ≡ None }
-    ensures end { Some (ending_of result.0) ≡ flow.seen.ended }
-    ensures sets { result.1.items ≡ flow.sets }
-{
-    let _name = flow.next_name();
-    let (end, sets) = flow.into_parts();
-    match end {
-        Some(end) => (end, sets),
-        None => unreachable!(),
-    }
-}
 
 // Whether it ended since the horizon had passed its place meanwhile, though a later one would do.
 fn begins_again(freshness: Freshness, end: &ReadEnd) -> bool
@@ -45,13 +30,14 @@ fn begins_again(freshness: Freshness, end: &ReadEnd) -> bool
 }
 
 // A shard is read at once, unless it has just told that it has not learned so far.
-fn hasten(flow: &mut ReadFlow, is_behind: bool)
-    ensures asked { flow.new ≡ record flow.old { seen = flow.new.seen; next_name = flow.new.next_name } }
-    ensures hastens { HastensRead flow.old.seen flow.new.seen }
+fn hasten(flow: ReadFlow, is_behind: bool) -> ReadFlow
+    ensures asked { result ≡ record flow { next = result.next; holds = result.holds; next_name = result.next_name } }
+    ensures hastens { HastensRead (seen_of flow) (seen_of result) }
 {
-    if !is_behind {
-        flow.read_at_once();
+    if is_behind {
+        return flow;
     }
+    flow.read_at_once()
 }
 
 impl<D: Device, B: Room, G: Gate> Store<D, B, G> {
@@ -62,16 +48,14 @@ impl<D: Device, B: Room, G: Gate> Store<D, B, G> {
         caller: &mut Caller<B>,
         freshness: Freshness,
         sets: Vec<Tupleset>,
-    ) -> ReadFlow
+    ) -> Progress<ReadFlow, ReadDone>
         ensures caller { IsLater caller.old.pass caller.new.pass }
-        ensures runs { ReadRuns B.rests B.shards caller.new.pass.seen freshness (length caller.old.pass.seen) sets.items result }
-        ensures rests { result.seen.awaited ≡ None }
-        ensures reason { (marks : List Bool) → ReadHasReason marks result.fresh caller.new.pass.seen caller.new.pass.horizon result.seen }
+        ensures runs { ReadRuns B.rests B.shards caller.new.pass.seen freshness (length caller.old.pass.seen) caller.new.pass.horizon sets.items result }
     {
         let count = self.shards();
         match self.known_place(caller, freshness) {
             Some(place) => ReadFlow::at(alloc, count, place, sets),
-            None => ReadFlow::new(alloc, count, freshness, sets),
+            None => Progress::Next(ReadFlow::new(alloc, count, freshness, sets)),
         }
     }
 
@@ -82,25 +66,23 @@ impl<D: Device, B: Room, G: Gate> Store<D, B, G> {
         caller: &mut Caller<B>,
         told: &mut Told,
         mut flow: ReadFlow,
-    ) -> ReadFlow
+    ) -> ReadDone
         requires of { flow.shards ≡ B.shards }
-        requires held { B.rests → IsReadOf B.shards caller.old.pass.seen flow.fresh flow.sets flow.seen }
-        requires rests { flow.seen.awaited ≡ None }
-        requires reason { B.rests → ReadHasReason told.old flow.fresh caller.old.pass.seen caller.old.pass.horizon flow.seen }
+        requires held { B.rests → IsReadOf B.shards caller.old.pass.seen flow.fresh flow.sets (seen_of flow) }
         ensures caller { IsLater caller.old.pass caller.new.pass }
-        ensures held { B.rests → IsReadOf B.shards caller.new.pass.seen result.fresh result.sets result.seen }
-        ensures same { (result.fresh ≡ flow.fresh) × (result.sets ≡ flow.sets) }
-        ensures named { result.next_name ≡ None }
-        ensures rests { result.seen.awaited ≡ None }
-        ensures reason { B.rests → ReadHasReason told.new result.fresh caller.new.pass.seen caller.new.pass.horizon result.seen }
+        ensures held { B.rests → IsReadOf B.shards caller.new.pass.seen flow.fresh flow.sets (ended (ending_of result.end)) }
+        ensures sets { result.sets.items ≡ flow.sets }
+        ensures reason { B.rests → ReadHasReason told.new flow.fresh caller.new.pass.seen caller.new.pass.horizon (ended (ending_of result.end)) }
     {
         let mut is_behind = false;
         for _ in rt.forever() {
-            hasten(&mut flow, is_behind);
-            if flow.next_name().is_none() {
-                return flow;
+            let hastened = hasten(flow, is_behind);
+            let (after, tells_behind) = self.spend(rt, caller, told, hastened);
+            is_behind = tells_behind;
+            match after {
+                Progress::Next(later) => flow = later,
+                Progress::Ended(done) => return done,
             }
-            is_behind = self.turn(rt, caller, told, &mut flow);
         }
         unreachable!()
     }
@@ -114,15 +96,16 @@ impl<D: Device, B: Room, G: Gate> Store<D, B, G> {
         told: &mut Told,
         freshness: Freshness,
         sets: Vec<Tupleset>,
-    ) -> (ReadEnd, Vec<Tupleset>)
+    ) -> ReadDone
         ensures caller { IsLater caller.old.pass caller.new.pass }
-        ensures answer { B.rests → ReadEnds caller.new.pass.seen freshness (length caller.old.pass.seen) sets.items (ending_of result.0) }
-        ensures refused { B.rests → ReadRefuses told.new caller.new.pass.seen caller.new.pass.horizon freshness (length caller.old.pass.seen) (ending_of result.0) }
-        ensures sets { result.1.items ≡ sets.items }
+        ensures answer { B.rests → ReadEnds caller.new.pass.seen freshness (length caller.old.pass.seen) sets.items (ending_of result.end) }
+        ensures refused { B.rests → ReadRefuses told.new caller.new.pass.seen caller.new.pass.horizon freshness (length caller.old.pass.seen) (ending_of result.end) }
+        ensures sets { result.sets.items ≡ sets.items }
     {
-        let flow = self.begin_read(alloc, caller, freshness, sets);
-        let flow = self.run_read(rt, caller, told, flow);
-        ended(flow)
+        match self.begin_read(alloc, caller, freshness, sets) {
+            Progress::Next(flow) => self.run_read(rt, caller, told, flow),
+            Progress::Ended(done) => done,
+        }
     }
 
     /// The tuples of each tupleset at one place, which it tells: just the one that was asked for, or else one no older than all that the caller had seen. It
@@ -141,6 +124,7 @@ impl<D: Device, B: Room, G: Gate> Store<D, B, G> {
     ) -> ReadEnd
         ensures caller { IsLater caller.old.pass caller.new.pass }
         ensures answer { B.rests → ReadEnds caller.new.pass.seen freshness (length caller.old.pass.seen) sets.items (ending_of result) }
+        ensures kept { B.rests → ReadIsKept caller.old.pass.horizon (ending_of result) }
         ensures refused { B.rests → ReadRefuses told.new caller.new.pass.seen caller.new.pass.horizon freshness (length caller.old.pass.seen) (ending_of result) }
         ensures passed { IsPassed freshness caller.old.pass.horizon → result ≡ ReadEnd.Refused Refusal.Collected }
         ensures collected { result ≡ ReadEnd.Refused Refusal.Collected → IsJustOne freshness }
@@ -150,13 +134,12 @@ impl<D: Device, B: Room, G: Gate> Store<D, B, G> {
         }
         let mut sets = sets;
         for _ in rt.forever() {
-            let (end, asked) = self.try_read(rt, alloc, caller, told, freshness, sets);
-            if !begins_again(freshness, &end) {
-                drop(asked);
-                return end;
+            let done = self.try_read(rt, alloc, caller, told, freshness, sets);
+            if !begins_again(freshness, &done.end) {
+                return done.end;
             }
             told.begin_again();
-            sets = asked;
+            sets = done.sets;
         }
         unreachable!()
     }

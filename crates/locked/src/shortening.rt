@@ -63,7 +63,7 @@ impl<D: Device, B: Room, G: Gate> Store<D, B, G> {
         }
     }
 
-    // How many bytes a checkpoint of the node has; none where its opening was refused, or there is no memory to tell.
+    // How many bytes a checkpoint of the node has; none if its opening was refused, or there is no memory to tell.
     pub(crate) fn checkpoint_len<R: Wait>(&self, rt: &R, node: NodeName) -> Option<u64>
         requires there { IsThere B.shards (begun B.shards (checkpoint_of node)) }
     {
@@ -168,7 +168,7 @@ impl<D: Device, B: Room, G: Gate> Store<D, B, G> {
         }
     }
 
-    // Each node makes one where its bank is longer than its own limit.
+    // Each node makes one if its bank is longer than its own limit.
     pub(crate) fn shorten_all<R: Wait, N: Notice>(
         &self,
         rt: &R,

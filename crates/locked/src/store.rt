@@ -18,7 +18,7 @@ use tuples::{Refusal, Shards};
 #[derive(Drop)]
 pub struct Store<D: Device, B: Room, G: Gate> {
     pub(crate) gate: G,
-    // wakes whoever tends it
+    // wakes the thread that tends it
     pub(crate) bell: Unparker,
     pub(crate) closed: AtomicBool,
     // whether who tends it is to make a round
@@ -111,7 +111,7 @@ impl<D: Device, B: Room, G: Gate> Store<D, B, G> {
         unreachable!()
     }
 
-    /// Opens the coordinator again, with what its devices hold, once these are back from a flush; what was kept joins the list. The refusal of its opening, where
+    /// Opens the coordinator again, with what its devices hold, once these are back from a flush; what was kept joins the list. The refusal of its opening, if
     /// that was refused.
     pub fn restart_coordinator<R: Wait>(&self, rt: &R, alloc: Global) -> Option<Refusal> {
         let refusal = self.coordinator.restart(rt, &self.lists, alloc);
@@ -119,7 +119,7 @@ impl<D: Device, B: Room, G: Gate> Store<D, B, G> {
         refusal
     }
 
-    /// Opens the shard of this number again, with what its devices hold, once these are back from a flush. The refusal of its opening, where that was refused.
+    /// Opens the shard of this number again, with what its devices hold, once these are back from a flush. The refusal of its opening, if that was refused.
     pub fn restart_shard<R: Wait>(&self, rt: &R, alloc: Global, shard: u8) -> Option<Refusal>
         requires { shard < B.shards }
     {

@@ -18,17 +18,17 @@ use std::sync::atomic::Ordering;
 use std::time::{Clock, Duration};
 use tuples::Refusal;
 
-// Whoever tends a store looks so often whether a round was called for: a write that was refused may have left tuples held, and wakes nobody.
+// The thread that tends a store looks this often whether a round was called for: a write that was refused may have left tuples held, and wakes nobody.
 const SECONDS_A_LOOK: u64 = 1;
 
-/// What wakes whoever tends a store, and what sleeps there: the bell is for `Store::open`, and the parker for `Store::keep`.
+/// What wakes the thread that tends a store, and what sleeps there: the bell is for `Store::open`, and the parker for `Store::keep`.
 pub(crate) fn new_bell(alloc: Global) -> Result<(Parker, Unparker), AllocError> {
     let parker = Parker::new(alloc)?;
     let bell = parker.unparker().clone()?;
     Ok((parker, bell))
 }
 
-// The place to which the horizon is raised, so many places behind the latest one. None where it has not fallen an eighth more behind: each raise is a flush
+// The place to which the horizon is raised, so many places behind the latest one. None if it has not fallen an eighth more behind: each raise is a flush
 // of every node.
 fn raise_to(latest: u64, horizon: u64, window: u64) -> Option<u64>
     ensures place { IfSome result (λ place. place + window ≡ latest) }
@@ -163,9 +163,9 @@ impl<D: Device, B: Room, G: Gate> Store<D, B, G> {
         is_closed
     }
 
-    /// Tends the store until it is closed: a round whenever the bell rings, and a last one once it is closed. It rings where a write left something behind,
-    /// where a node was opened again, and at every 1,024th place; within a second of a write that was refused a round is made too. The horizon follows the latest
-    /// place by the window: so many places, or fewer where their decisions take more bytes than it has. After each round a node
+    /// Tends the store until it is closed: a round whenever the bell rings, and a last one once it is closed. It rings if a write left something behind,
+    /// if a node was opened again, and at every 1,024th place; within a second of a write that was refused a round is made too. The horizon follows the latest
+    /// place by the window: so many places, or fewer if their decisions take more bytes than it has. After each round a node
     /// whose bank has grown to four times what its last checkpoint left it with, and to more than 2 MiB, makes one; from 64 MiB on it makes one at twice as
     /// much. It answers nobody meanwhile. When the store is opened, what a checkpoint would have then counts as left. If the disk has no room for one it is put
     /// off, and the notice is told. One that was put off or refused is tried again once 2 MiB more were written.
@@ -190,7 +190,7 @@ impl<D: Device, B: Room, G: Gate> Store<D, B, G> {
         unreachable!()
     }
 
-    /// Whoever tends the store ends behind one more round. It takes no lock, and calls go on as before.
+    /// The thread that tends the store ends after one more round. It takes no lock, and calls go on as before.
     pub fn close(&self) {
         self.closed.store(true, Ordering::SeqCst);
         self.bell.unpark();
@@ -201,7 +201,7 @@ impl<D: Device, B: Room, G: Gate> Store<D, B, G> {
         self.is_called.store(true, Ordering::SeqCst);
     }
 
-    // Wakes whoever tends the store, for a round.
+    // Wakes the thread that tends the store, for a round.
     pub(crate) fn ring(&self) {
         self.call();
         self.bell.unpark();

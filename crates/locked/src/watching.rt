@@ -1,31 +1,19 @@
 // Watches of a shared store.
-ghost use Rattle.std.specs.Prelude.{◌≡◌, ◌≤◌, ◌<◌, length, None, Some};
-ghost use Rattle.answer_flow.specs.WatchViews.{ending_of, next_name_of};
+ghost use Rattle.std.specs.Prelude.{◌≡◌, ◌≤◌, ◌<◌, length};
+ghost use Rattle.answer_flow.specs.WatchViews.{ended, ending_of, seen_of};
 ghost use Rattle.flow_ties.specs.Watches.{IsWatchOf, WatchHasReason};
 ghost use Rattle.sides.specs.Sides.{IsLater};
 ghost use Rattle.tuples.specs.Limits.{max_watched};
-ghost use Rattle.locked.specs.Answering.{WatchEnds, WatchRefuses};
+ghost use Rattle.locked.specs.Answering.{WatchEnds, WatchIsKept, WatchRefuses};
 
 use crate::{Caller, Gate, Store};
 use answer_flow::{WatchEnd, WatchFlow};
-use calls::Told;
+use calls::{Progress, Told};
 use device::Device;
 use sides::Room;
 use std::alloc::Global;
 use std::sync::Wait;
-use tuples::{Namespace, Refusal};
-
-// What it ended with; it has ended.
-fn ended(flow: WatchFlow) -> WatchEnd
-    requires named { next_name_of flow.seen ≡ None }
-    requires rests { flow.seen.awaited ≡ None }
-    ensures { Some (ending_of result) ≡ flow.seen.ended }
-{
-    match flow.finish() {
-        Some(end) => end,
-        None => unreachable!(),
-    }
-}
+use tuples::{Freshness, Namespace, Refusal};
 
 impl<D: Device, B: Room, G: Gate> Store<D, B, G> {
     // Makes its calls, one a turn, until it ends.
@@ -35,22 +23,19 @@ impl<D: Device, B: Room, G: Gate> Store<D, B, G> {
         caller: &mut Caller<B>,
         told: &mut Told,
         mut flow: WatchFlow,
-    ) -> WatchFlow
+    ) -> WatchEnd
         requires few { flow.limit ≤ max_watched }
-        requires held { B.rests → IsWatchOf flow.cursor flow.limit flow.namespaces (length caller.old.pass.seen) caller.old.pass.seen flow.seen }
-        requires rests { flow.seen.awaited ≡ None }
-        requires reason { B.rests → WatchHasReason told.old flow.cursor caller.old.pass.seen caller.old.pass.horizon flow.seen }
+        requires held { B.rests → IsWatchOf flow.cursor flow.limit flow.namespaces (length caller.old.pass.seen) caller.old.pass.seen (seen_of flow) }
         ensures caller { IsLater caller.old.pass caller.new.pass }
-        ensures held { B.rests → IsWatchOf flow.cursor flow.limit flow.namespaces (length caller.old.pass.seen) caller.new.pass.seen result.seen }
-        ensures named { next_name_of result.seen ≡ None }
-        ensures rests { result.seen.awaited ≡ None }
-        ensures reason { B.rests → WatchHasReason told.new flow.cursor caller.new.pass.seen caller.new.pass.horizon result.seen }
+        ensures held { B.rests → IsWatchOf flow.cursor flow.limit flow.namespaces (length caller.old.pass.seen) caller.new.pass.seen (ended (ending_of result)) }
+        ensures reason { B.rests → WatchHasReason told.new flow.cursor caller.new.pass.seen caller.new.pass.horizon (ended (ending_of result)) }
     {
         for _ in rt.forever() {
-            if flow.next_name().is_none() {
-                return flow;
+            let (after, _) = self.spend(rt, caller, told, flow);
+            match after {
+                Progress::Next(later) => flow = later,
+                Progress::Ended(end) => return end,
             }
-            self.turn(rt, caller, told, &mut flow);
         }
         unreachable!()
     }
@@ -71,14 +56,14 @@ impl<D: Device, B: Room, G: Gate> Store<D, B, G> {
         requires few { limit ≤ max_watched }
         ensures caller { IsLater caller.old.pass caller.new.pass }
         ensures lists { B.rests → WatchEnds cursor limit namespaces.items (length caller.old.pass.seen) caller.new.pass.seen (ending_of result) }
+        ensures kept { B.rests → WatchIsKept caller.old.pass.horizon (ending_of result) }
         ensures refused { B.rests → WatchRefuses told.new caller.new.pass.seen caller.new.pass.horizon cursor (ending_of result) }
         ensures passed { cursor < caller.old.pass.horizon → result ≡ WatchEnd.Refused Refusal.Collected }
     {
-        if cursor < self.horizon(caller) {
+        if self.has_passed(caller, Freshness::Exact(cursor)) {
             return WatchEnd::Refused(Refusal::Collected);
         }
         let flow = WatchFlow::new(alloc, cursor, limit, namespaces);
-        let flow = self.run_watch(rt, caller, told, flow);
-        ended(flow)
+        self.run_watch(rt, caller, told, flow)
     }
 }

@@ -1,4 +1,4 @@
-// How far the horizon stays behind the latest place: so many places, or fewer where their decisions take too many bytes.
+// How far the horizon stays behind the latest place: so many places, or fewer if their decisions take too many bytes.
 ghost use Rattle.std.specs.Prelude.{◌≡◌, ◌≤◌, ◌<◌, ◌+◌, ◌*◌, ◌^◌};
 ghost use Rattle.sides.specs.Sides.{IsLater};
 
@@ -57,7 +57,7 @@ impl Counted {
     }
 }
 
-// How many of so many places take no more bytes than may be, where all of them take the same, and so many together.
+// How many of so many places take no more bytes than may be, if all of them take the same, and so many together.
 fn fitting(places: u64, held: u64, bytes: u64) -> u64
     ensures all { held ≤ bytes → result ≡ places }
     ensures few { result ≤ places }

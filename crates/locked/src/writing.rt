@@ -15,11 +15,11 @@ use std::alloc::Global;
 use std::sync::Wait;
 use tuples::{Refusal, Write};
 
-// How many places lie between two rounds of whoever tends the store, where nothing else calls for one.
+// How many places lie between two rounds of the thread that tends the store, if nothing else calls for one.
 const PLACES_A_ROUND: u64 = 1_024;
 
 impl<D: Device, B: Room, G: Gate> Store<D, B, G> {
-    // Whoever tends the store is woken where a write may have left something behind at a node, and at every so many places. Where a shard had no room to note that a
+    // The thread that tends the store is woken if a write may have left something behind at a node, and at every so many places. If a shard had no room to note that a
     // refused write is dropped, its tuples are held until a round.
     fn ring_behind(&self, end: &WriteEnd) {
         match end {
@@ -86,9 +86,9 @@ impl<D: Device, B: Room, G: Gate> Store<D, B, G> {
         unreachable!()
     }
 
-    /// Makes a write. At `Wrote` it stands at the place that is told, which is above all that the caller had seen, and its id nowhere else in the list. Where
-    /// memory is refused before it begins it ends with `NoMemory`, and the caller has seen no more than before; where a node refuses, with that refusal,
-    /// which has then been told: hand in a `Told` that is empty; with `Unsure` where a device failed over its decision, and only a new opening of the
+    /// Makes a write. At `Wrote` it stands at the place that is told, which is above all that the caller had seen, and its id nowhere else in the list. If
+    /// memory is refused before it begins it ends with `NoMemory`, and the caller has seen no more than before; if a node refuses, with that refusal,
+    /// which has then been told: hand in a `Told` that is empty; with `Unsure` if a device failed over its decision, and only a new opening of the
     /// coordinator finds out what became of it. Nobody cancels it, so it does not end as `Cancelled`.
     pub fn write<R: Wait>(
         &self,

@@ -1,5 +1,5 @@
 -- One care more, and what a care that is served or refused is.
-use Rattle.std.proofs.Common.{◌≡◌, ◌++◌, ◌∷◌, [], ◌⊎◌, inl, inr, ℕ, List, Option, Some, Result, Ok, Err, length, refl, sym, subst, arith}
+use Rattle.std.proofs.Common.{◌≡◌, ◌++◌, ◌∷◌, [], inl, inr, ℕ, List, Option, Some, Result, Ok, Err, length, refl, sym, subst, arith}
 use Rattle.std.specs.List.{AllByRecursion}
 use Rattle.std.specs.Result.{IfErr, OnOk}
 use Rattle.std.proofs.lemmas.List.Elements.{Contains-push}
@@ -8,17 +8,18 @@ use Rattle.cluster.specs.Steps.{Takes, events_of}
 use Rattle.cluster.specs.Worlds.{WorldView}
 use Rattle.cluster.specs.declared.event.Event.{Event}
 use Rattle.cluster.specs.declared.event.What.{What}
-use Rattle.cluster.specs.declared.event.What.TheVariants.{Began, Ended, Refused}
+use Rattle.cluster.specs.declared.event.What.TheVariants.{Began, Ended, Next, Refused}
 use Rattle.cluster.specs.declared.step.Step.{Step}
 use Rattle.cluster.specs.declared.step.Step.TheVariants.{Turn, Care as care_for}
 use Rattle.device.specs.Device.{State}
+use Rattle.names.specs.declared.call_name.CallName.TheVariants.{Learned}
 use Rattle.names.specs.declared.care.Care.{Care}
 use Rattle.names.specs.declared.care.Care.TheVariants.{Flush}
 use Rattle.names.specs.declared.node_name.NodeName.TheVariants.{Coordinator}
 use Rattle.refusal.specs.declared.refusal.Refusal.{Refusal}
-use Rattle.refusal.specs.declared.refusal.Refusal.TheVariants.{Damaged, NoMemory}
+use Rattle.refusal.specs.declared.refusal.Refusal.TheVariants.{NoMemory}
 use Rattle.reshard.specs.Caring.{Cares, CaresOn, IsCaredFor, IsCaring, IsOfClosing, Serves, TurnsOf}
-use Rattle.reshard.specs.Refusing.{BeginsNot, ComesTo, HasComeTo, Plays, RefusesCare, TurnsTo}
+use Rattle.reshard.specs.Refusing.{BeginsNot, Plays, RefusesCare}
 
 all_more : (steps : List Step) (s : Step) → AllByRecursion IsCaring steps → IsCaring s → AllByRecursion IsCaring (steps ++ s ∷ [])
 all_more [] s all one = (one, tt)
@@ -57,23 +58,13 @@ module _ {D : Type 0} (state : D → State) (honest : D → Type 0) (moment : D 
   serves_care care old new is s =
       cares_then old s.begun new (one_care old s.begun (care_for care) (Some (Began s.slot)) is s.begins) (turns_care s.slot (Some (Ended s.answer) ∷ s.before) s.begun new s.turns)
 
-  has_come : (told : Option What) (all : List (Option What)) (r : Result (Unit {0}) Refusal) → ComesTo told r → HasComeTo (told ∷ all) r
-  has_come told all (Ok done) (answer, is) = (answer, all, subst (λ (t : Option What). told ∷ all ≡ t ∷ all) is refl)
-  has_come told all (Err e) (inl damaged) = inl damaged
-  has_come told all (Err e) (inr is) = inr (inr (all, subst (λ (t : Option What). told ∷ all ≡ t ∷ all) is refl))
-
-  -- one turn more
-  pub plays_on : (slot : ℕ) (old mid new : WorldView D) (before r : Result (Unit {0}) Refusal) → Plays state honest moment left_since slot old before mid → TurnsTo state honest moment left_since slot mid r new
-      → Plays state honest moment left_since slot old r new
-  plays_on slot old mid new before r (all, turns, come) (told, takes, comes) = (told ∷ all, (mid, turns, takes), has_come told all r comes)
-
   -- ---- refusals
 
   pub refused_later : (old mid new : WorldView D) (e : Refusal) → CaresOn state honest moment left_since old mid → RefusesCare state honest moment left_since mid e new → RefusesCare state honest moment left_since old e new
   refused_later old mid new e on refuses first cares = refuses first (on first cares)
 
-  left_off : (old new : WorldView D) (e : Refusal) → (e ≡ NoMemory) ⊎ (e ≡ Damaged) → CaresOn state honest moment left_since old new → RefusesCare state honest moment left_since old e new
-  left_off old new e cause on first cares = record { cares = on first cares; cause = inr cause }
+  no_memory : (old new : WorldView D) (e : Refusal) → e ≡ NoMemory → CaresOn state honest moment left_since old new → RefusesCare state honest moment left_since old e new
+  no_memory old new e none on first cares = record { cares = on first cares; cause = inr (inl none) }
 
   told_refused : (old new : WorldView D) (step : Step) (e : Refusal) → IsCaring step → Takes state honest moment left_since old step (Some (Refused e)) new → RefusesCare state honest moment left_since old e new
   told_refused old new step e caring takes first cares =
@@ -81,30 +72,24 @@ module _ {D : Type 0} (state : D → State) (honest : D → Type 0) (moment : D 
       record { cares = with_step first old new step (Some (Refused e)) caring takes cares; cause = inl (length cares.steps, Contains-push cares.events event) }
 
   pub begins_not : (care : Care) (old new : WorldView D) (e : Refusal) → IsOfClosing care → BeginsNot state honest moment left_since care old e new → RefusesCare state honest moment left_since old e new
-  begins_not care old new e is (inl (none, same)) = left_off old new e (inl none) (no_care old new same)
-  begins_not care old new e is (inr (told, takes, inl damaged)) = left_off old new e (inr damaged) (one_care old new (care_for care) told is takes)
-  begins_not care old new e is (inr (told, takes, inr refuses)) =
-      told_refused old new (care_for care) e is (subst (λ (t : Option What). Takes state honest moment left_since old (care_for care) t new) refuses takes)
+  begins_not care old new e is (inl (none, same)) = no_memory old new e none (no_care old new same)
+  begins_not care old new e is (inr takes) = told_refused old new (care_for care) e is takes
 
   plays_not : (slot : ℕ) (old new : WorldView D) (e : Refusal) → Plays state honest moment left_since slot old (Err e) new → RefusesCare state honest moment left_since old e new
-  plays_not slot old new e (all, turns, inl damaged) = left_off old new e (inr damaged) (turns_care slot all old new turns)
-  plays_not slot old new e (all, turns, inr (inl none)) = left_off old new e (inl none) (turns_care slot all old new turns)
-  plays_not slot old new e (all, turns, inr (inr (before, is))) =
-      let t = subst (λ (l : List (Option What)). TurnsOf state honest moment left_since slot l old new) is turns in
-      refused_later old t.0 new e (turns_care slot before old t.0 t.1) (told_refused t.0 new (Turn slot) e tt t.2)
+  plays_not slot old new e (inl (before, t)) = refused_later old t.0 new e (turns_care slot before old t.0 t.1) (told_refused t.0 new (Turn slot) e tt t.2)
+  plays_not slot old new e (inr (inl (none, all, turns))) = no_memory old new e none (turns_care slot all old new turns)
+  plays_not slot old new e (inr (inr (damaged, m))) = λ first cares.
+      let before = turns_care slot m.before old m.mid m.turns first cares in
+      record {
+        cares = one_care m.mid new (Turn slot) (Some (Next Learned)) tt m.turn first before;
+        cause = inr (inr (damaged, record { slot = slot; mid = m.mid; cares = before; makes = m.makes; turn = m.turn }));
+      }
 
   -- ---- a care from its beginning to its end
 
   module _ (care : Care) (slot : ℕ) (old begun new : WorldView D) (is : IsOfClosing care) (begins : Takes state honest moment left_since old (care_for care) (Some (Began slot)) begun) where
     pub serves_well : (r : Result (Unit {0}) Refusal) → Plays state honest moment left_since slot begun r new → OnOk r (Serves state honest moment left_since care old new)
-    serves_well (Ok done) (all, turns, (answer, before, all_is)) = record {
-      slot = slot;
-      begun = begun;
-      begins = begins;
-      answer = answer;
-      before = before;
-      turns = subst (λ (l : List (Option What)). TurnsOf state honest moment left_since slot l begun new) all_is turns;
-    }
+    serves_well (Ok done) (answer, before, turns) = record { slot = slot; begun = begun; begins = begins; answer = answer; before = before; turns = turns }
     serves_well (Err e) plays = tt
 
     pub serves_not : (r : Result (Unit {0}) Refusal) → Plays state honest moment left_since slot begun r new → IfErr r (λ e. RefusesCare state honest moment left_since old e new)

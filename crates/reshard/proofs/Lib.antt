@@ -5,3 +5,4 @@ pub mod Filled
 pub mod Founded
 mod Up
 pub mod Written
+pub mod Turning

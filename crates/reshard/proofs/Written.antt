@@ -13,10 +13,11 @@ use Rattle.journal.specs.Beginnings.{BegunView}
 use Rattle.journal.specs.Records.{HasRecords}
 use Rattle.names.specs.declared.node_name.NodeName.TheVariants.{Coordinator}
 use Rattle.refusal.specs.declared.refusal.Refusal.{Refusal}
-use Rattle.refusal.specs.declared.refusal.Refusal.TheVariants.{Down, NoMemory}
+use Rattle.refusal.specs.declared.refusal.Refusal.TheVariants.{Damaged, Down, NoMemory}
 use Rattle.tuples.specs.declared.version.Version.{Version}
 use Rattle.reshard.specs.Made.{AreHonest, HasLog, HaveShards, devices_of}
-use Rattle.reshard.specs.Refusing.{IsNotWritten, LacksLog}
+use Rattle.refusal.specs.Refusals.{IsOneOf}
+use Rattle.reshard.specs.Refusing.{HaveSomething, IsNotWritten, LacksLog}
 use Rattle.reshard.specs.Written.{AreLeft, AreWrittenInOrder, BeginsNode, EndsFirst, EndsLast, FirstTwo, HasBegunOn, HasTried, HeadBegins, KeepsFirst, PutsTwoBack}
 
 -- another node than the first is changed
@@ -155,7 +156,14 @@ pub on_ok_always : {T E : Type 0} (P : Type 0) (result : Result T E) → P → O
 on_ok_always P (Ok done) p = p
 on_ok_always P (Err e) p = tt
 
-pub written_not : {D : Type 0} (nodes : List (NodeView D)) (e : Refusal) → (e ≡ Down) ⊎ ((e ≡ NoMemory) ⊎ LacksLog nodes e) → IsNotWritten nodes e
-written_not nodes e (inl down) = inl down
-written_not nodes e (inr (inl none)) = inr (inl none)
-written_not nodes e (inr (inr lacks)) = inr (inr (inr lacks))
+pub written_not : {D : Type 0} (state : D → State) (honest : D → Type 0) (given : List D) (nodes : List (NodeView D)) (e : Refusal) → (e ≡ Down) ⊎ ((e ≡ NoMemory) ⊎ LacksLog nodes e) → IsNotWritten state honest given nodes e
+written_not state honest given nodes e (inl down) = inl down
+written_not state honest given nodes e (inr (inl none)) = inr (inl none)
+written_not state honest given nodes e (inr (inr lacks)) = inr (inr (inr lacks))
+
+-- a checkpoint could not begin
+pub begun_not : {D T : Type 0} (state : D → State) (honest : D → Type 0) (given : List D) (nodes : List (NodeView D)) (r : Result T Refusal) (e : Refusal) → r ≡ Err e → IsOneOf e (Down ∷ NoMemory ∷ Damaged ∷ [])
+    → (r ≡ Err Damaged → HaveSomething state honest given) → IsNotWritten state honest given nodes e
+begun_not state honest given nodes r e is (inl down) damaged = inl down
+begun_not state honest given nodes r e is (inr (inl none)) damaged = inr (inl none)
+begun_not state honest given nodes r e is (inr (inr bad)) damaged = inr (inr (inl (bad, damaged (is ∙ ap (λ (x : Refusal). Err x) bad))))

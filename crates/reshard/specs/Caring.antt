@@ -1,16 +1,19 @@
 -- What is done of the old store: cares of its nodes, and nothing else.
-use Rattle.std.specs.Prelude.{◌≡◌, ◌<◌, ℕ, List, [], ◌∷◌, Ok, Option, Some, MatchOption}
+use Rattle.std.specs.Prelude.{◌≡◌, ◌<◌, ℕ, true, List, [], ◌∷◌, Ok, Option, Some, MatchOption, is_some}
 use Rattle.std.specs.List.{AllByRecursion}
 use Rattle.calls.specs.Carrying.{Reaches}
 use Rattle.calls.specs.Views.{NodeView}
 use Rattle.calls.specs.declared.carrying.Reach.{Reach}
+use Rattle.care_flow.specs.Cares.{next_name_of}
 use Rattle.cluster.specs.Runs.{TookAll}
 use Rattle.cluster.specs.Steps.{Takes}
-use Rattle.cluster.specs.Worlds.{WorldView, node_at}
+use Rattle.cluster.specs.Worlds.{WorldView, flow_at, node_at}
 use Rattle.cluster.specs.declared.event.Answer.{Answer}
 use Rattle.cluster.specs.declared.event.Event.{Event}
 use Rattle.cluster.specs.declared.event.What.{What}
 use Rattle.cluster.specs.declared.event.What.TheVariants.{Began, Ended}
+use Rattle.cluster.specs.declared.flow.Flow.{Flow}
+use Rattle.cluster.specs.declared.flow.Flow.TheVariants.{Care as a_care}
 use Rattle.cluster.specs.declared.step.Step.{Step}
 use Rattle.cluster.specs.declared.step.Step.TheVariants.{Start, Turn, Cancel, Care as care_for, Restart}
 use Rattle.device.specs.Device.{State}
@@ -35,6 +38,15 @@ IsCaring (Turn slot) = Unit {0}
 IsCaring (Cancel slot) = ⊥
 IsCaring (care_for care) = IsOfClosing care
 IsCaring (Restart name) = ⊥
+
+-- a care that makes a call next
+abbrev pub IsGoing : Flow → Type 0
+IsGoing (a_care v) = is_some (next_name_of v) ≡ true
+IsGoing flow = ⊥
+
+-- such a care is in this slot
+abbrev pub HoldsCare : {D : Type 0} → WorldView D → ℕ → Type 0
+HoldsCare w slot = MatchOption (flow_at w.flows slot) ⊥ IsGoing
 
 module _ {D : Type 0} (state : D → State) (honest : D → Type 0) (moment : D → ℕ) (left_since : D → ℕ → List ℕ → Type 0) where
   -- such steps were taken, one after another

@@ -24,12 +24,12 @@ module _ {D : Type 0} (state : D → State) (honest : D → Type 0) (moment : D 
     pub carries : CarriesWorld opened new_shards given made
 
   -- it was not carried over, for this cause
-  abbrev pub CarriesWorldNot : WorldView D → Refusal → Type 0
-  CarriesWorldNot opened e = (left : WorldView D) × CarriesNot state honest moment left_since opened e left
+  abbrev pub CarriesWorldNot : List D → WorldView D → Refusal → Type 0
+  CarriesWorldNot given opened e = (left : WorldView D) × CarriesNot state honest moment left_since given opened e left
 
   -- there was no memory to open it, or it was not carried over
-  abbrev pub CarriesDevicesNot : ℕ → ℕ → List D → Refusal → Type 0
-  CarriesDevicesNot store shards devices e = (e ≡ NoMemory) ⊎ ((opened : WorldView D) × IsOpenedOver state honest moment left_since store shards devices opened × CarriesWorldNot opened e)
+  abbrev pub CarriesDevicesNot : ℕ → ℕ → List D → List D → Refusal → Type 0
+  CarriesDevicesNot store shards devices given e = (e ≡ NoMemory) ⊎ ((opened : WorldView D) × IsOpenedOver state honest moment left_since store shards devices opened × CarriesWorldNot given opened e)
 
 -- Two files for each node were opened, and two for each new one; and these are the new devices, to which the store was carried over.
 pub record CarriesFiles (store shards new_shards : ℕ) (made : List HostDevice) : Type 0 where

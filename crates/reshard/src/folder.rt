@@ -95,7 +95,7 @@ fn carry_devices<D: Device>(
     requires count { vec_len devices ≡ 2 * (shards + 1) }
     requires count_new { vec_len new_devices ≡ 2 * (new_shards + 1) }
     ensures ok { IfOk result (λ made. CarriesDevices D.state D.honest D.moment D.left_since store shards devices.items new_shards new_devices.items made.items) }
-    ensures err { IfErr result (CarriesDevicesNot D.state D.honest D.moment D.left_since store shards devices.items) }
+    ensures err { IfErr result (CarriesDevicesNot D.state D.honest D.moment D.left_since store shards devices.items new_devices.items) }
 {
     match reopen(alloc, devices, store, shards) {
         Ok(world) => carry_world(alloc, world, new_devices, new_shards),
@@ -112,7 +112,7 @@ fn carry_world<D: Device>(
     requires quiet { flow_count world.flows ≡ 0 }
     requires count_new { vec_len new_devices ≡ 2 * (new_shards + 1) }
     ensures ok { IfOk result (λ made. CarriesWorld D.state D.honest D.moment D.left_since world new_shards new_devices.items made.items) }
-    ensures err { IfErr result (CarriesWorldNot D.state D.honest D.moment D.left_since world) }
+    ensures err { IfErr result (CarriesWorldNot D.state D.honest D.moment D.left_since new_devices.items world) }
 {
     match carry_over(alloc, &mut world, new_devices, new_shards) {
         Ok(made) => Ok(made),

@@ -3,6 +3,7 @@ ghost use Rattle.std.specs.Prelude.{◌≡◌, ◌≤◌, ◌<◌, ◌+◌, ◌*
 ghost use Rattle.refusal.specs.Refusals.{IsOneOf};
 ghost use Rattle.std.specs.Vec.{vec_capacity, vec_len};
 ghost use Rattle.reshard.specs.Made.{AreHonest, devices_of};
+ghost use Rattle.reshard.specs.Refusing.{HaveSomething, IsBlank};
 ghost use Rattle.reshard.specs.Written.{BeginsNode, HeadBegins, PutsTwoBack};
 
 use device::Device;
@@ -48,7 +49,9 @@ fn begin_next<D: Device>(
     ensures capacity { (vec_capacity devices.new ≡ vec_capacity devices.old) × (vec_capacity begun.new ≡ vec_capacity begun.old) }
     ensures node { OnOk result (BeginsNode D.state D.honest D.moment D.left_since devices.old.items begun.old.items devices.new.items begun.new.items) }
     ensures back { OnErr result (PutsTwoBack D.state D.honest D.moment D.left_since devices.old.items devices.new.items × (begun.new ≡ begun.old)) }
+    ensures blank { All (IsBlank D.state D.honest) devices.old.items → OnOk result (All (IsBlank D.state D.honest) devices.new.items) }
     ensures err { IfErr result (λ e. IsOneOf e (Refusal.Down ∷ Refusal.NoMemory ∷ Refusal.Damaged ∷ [])) }
+    ensures damaged { result ≡ Err Refusal.Damaged → HaveSomething D.state D.honest devices.old.items }
 {
     let (a, b) = take_two(devices);
     match Begun::begin(alloc, a, b) {
@@ -82,6 +85,7 @@ pub(crate) fn begin_all<D: Device>(
     ensures capacity { vec_capacity devices.new ≡ vec_capacity devices.old }
     ensures head { HeadBegins D.state D.honest D.moment D.left_since devices.old.items begun.new.items devices.new.items }
     ensures err { IfErr result (λ e. IsOneOf e (Refusal.Down ∷ Refusal.NoMemory ∷ Refusal.Damaged ∷ [])) }
+    ensures damaged { result ≡ Err Refusal.Damaged → HaveSomething D.state D.honest devices.old.items }
 {
     while begun.len() < count {
         begin_next(alloc, devices, begun)?;

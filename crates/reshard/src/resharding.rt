@@ -77,7 +77,7 @@ fn write<D: Device>(
         × EndsLast D.state D.honest D.moment D.left_since old.now shards known.now.reach (merged known.now.rows) (All D.honest devices.old.items) head begun.new.items) }
     ensures so_far { ((begun.new.items ≡ []) × FirstTwo D.state D.honest D.moment D.left_since devices.old.items devices.new.items)
         ⊎ ((head : BegunView D) × HasBegunOn D.state D.honest D.moment D.left_since devices.old.items head × HasTried D.state D.honest D.moment D.left_since old.now shards known.now.reach (merged known.now.rows) (All D.honest devices.old.items) head begun.new.items) }
-    ensures err { IfErr result (IsNotWritten old.now.nodes) }
+    ensures err { IfErr result (IsNotWritten D.state D.honest devices.old.items old.now.nodes) }
 {
     begin_all(alloc, shards.count() as usize + 1, devices, begun)?;
     fill(alloc, old, shards, known.reach, &known.rows, begun)
@@ -96,7 +96,7 @@ fn make<D: Device>(
     ensures ok { OnOk result (AreMade D.state D.honest old.now shards known.now.reach (merged known.now.rows) devices.old.items devices.new.items) }
     ensures order { OnOk result (AreWrittenInOrder D.state D.honest D.moment D.left_since old.now shards known.now.reach (merged known.now.rows) devices.old.items devices.new.items) }
     ensures left { OnErr result (AreLeft D.state D.honest D.moment D.left_since old.now shards known.now.reach (merged known.now.rows) devices.old.items devices.new.items) }
-    ensures err { IfErr result (IsNotWritten old.now.nodes) }
+    ensures err { IfErr result (IsNotWritten D.state D.honest devices.old.items old.now.nodes) }
 {
     let Ok(mut begun) = Vec::with_capacity(alloc, shards.count() as usize + 1) else {
         return Err(Refusal::NoMemory);
@@ -120,7 +120,7 @@ fn carry_known<D: Device>(
     ensures back { IfErr result (λ e. vec_len e.1 ≡ vec_len devices) }
     ensures order { IfOk result (λ made. AreWrittenInOrder D.state D.honest D.moment D.left_since old.now shards known.now.reach (merged known.now.rows) devices.items made.items) }
     ensures left { IfErr result (λ e. AreLeft D.state D.honest D.moment D.left_since old.now shards known.now.reach (merged known.now.rows) devices.items e.1.items) }
-    ensures err { IfErr result (λ e. IsNotWritten old.now.nodes e.0) }
+    ensures err { IfErr result (λ e. IsNotWritten D.state D.honest devices.items old.now.nodes e.0) }
 {
     match make(alloc, old, shards, known, &mut devices) {
         Ok(()) => Ok(devices),
@@ -141,7 +141,7 @@ fn carry<D: Device>(
     ensures back { IfErr result (λ e. vec_len e.1 ≡ vec_len devices) }
     ensures order { IfOk result (λ made. (reach : AnyReach) × (rows : List AnyVersion) × AreWrittenInOrder D.state D.honest D.moment D.left_since old.now shards reach rows devices.items made.items) }
     ensures left { IfErr result (λ e. IsLeftOver D.state D.honest D.moment D.left_since old.now shards devices.items e.1.items) }
-    ensures err { IfErr result (λ e. IsNotKnown D.state D.honest old.now e.0 ⊎ IsNotWritten old.now.nodes e.0) }
+    ensures err { IfErr result (λ e. IsNotKnown D.state D.honest old.now e.0 ⊎ IsNotWritten D.state D.honest devices.items old.now.nodes e.0) }
 {
     match know(alloc, old) {
         Ok(known) => carry_known(alloc, old, shards, &known, devices),
@@ -157,8 +157,8 @@ fn carry<D: Device>(
 /// still is not carried over: it has no place in the log, and the new coordinator, which is opened once more than the old one, tells that it is aborted.
 ///
 /// Where a node is not up it is refused as that one, the coordinator before the shards; as a care was, or with `Down` where a call of a device failed,
-/// `NoMemory` or `Full`. `Damaged` where the old devices are not all of one moment, or a new one has something. Then the new devices come back to be emptied:
-/// unless the very last call failed, they are no store.
+/// `NoMemory` or `Full`. `Damaged` where the old devices are not all of one moment, a shard is to learn what the log no longer has, or a new device has
+/// something. Then the new devices come back to be emptied: unless the very last call failed, they are no store.
 pub fn carry_over<D: Device>(
     alloc: Global,
     old: &mut World<D>,
@@ -174,7 +174,7 @@ pub fn carry_over<D: Device>(
     ensures order { IfOk result (λ made. (reach : AnyReach) × (rows : List AnyVersion) × AreWrittenInOrder D.state D.honest D.moment D.left_since old.new shards reach rows devices.items made.items) }
     ensures left { IfErr result (λ r. IsLeftOver D.state D.honest D.moment D.left_since old.new shards devices.items r.1.items) }
     ensures not_up { (e : AnyRefusal) → IsFirstDown D.state D.honest old.old e → IsErr result × IfErr result (λ r. (r.0 ≡ e) × (r.1 ≡ devices)) × (old.new ≡ old.old) }
-    ensures err { IfErr result (λ r. CarriesNot D.state D.honest D.moment D.left_since old.old r.0 old.new) }
+    ensures err { IfErr result (λ r. CarriesNot D.state D.honest D.moment D.left_since devices.items old.old r.0 old.new) }
 {
     match close(old) {
         Ok(()) => carry(alloc, old, shards, devices),
@@ -196,7 +196,7 @@ pub fn reshard<D: Device>(
         × IsOpenedOver D.state D.honest D.moment D.left_since old.new.store shards made w) }
     ensures back { IfErr result (λ e. vec_len e.1 ≡ vec_len devices) }
     ensures not_up { (e : AnyRefusal) → IsFirstDown D.state D.honest old.old e → IsErr result × IfErr result (λ r. (r.0 ≡ e) × (r.1 ≡ devices)) × (old.new ≡ old.old) }
-    ensures err { IfErr result (λ r. CarriesNot D.state D.honest D.moment D.left_since old.old r.0 old.new ⊎ (r.0 ≡ Refusal.NoMemory)) }
+    ensures err { IfErr result (λ r. CarriesNot D.state D.honest D.moment D.left_since devices.items old.old r.0 old.new ⊎ (r.0 ≡ Refusal.NoMemory)) }
 {
     match carry_over(alloc, old, devices, shards) {
         Ok(made) => open(alloc, old.store(), shards, made),

@@ -1,8 +1,8 @@
 // The old store: what its shards have yet to learn is learned, and what nobody reads any more is forgotten.
-ghost use Rattle.std.specs.Prelude.{◌≡◌, ◌⊎◌, IfErr, IfOk, MatchResult, OnOk};
+ghost use Rattle.std.specs.Prelude.{◌≡◌, ◌<◌, ◌⊎◌, IfErr, IfOk, MatchResult, OnOk};
 ghost use Rattle.names.specs.declared.node_name.NodeName.{NodeName as AnyName};
 ghost use Rattle.reshard.specs.Caring.{CaresOn, HaveReached, IsCaredFor, ReachesAt};
-ghost use Rattle.reshard.specs.Refusing.{AreUp, IsFirstDown, RefusesAt, RefusesCare};
+ghost use Rattle.reshard.specs.Refusing.{AreApart, AreUp, IsFirstDown, RefusesAt, RefusesCare};
 
 use crate::playing::serve;
 use calls::Reach;
@@ -33,8 +33,10 @@ pub fn are_up<D: Device>(world: &World<D>) -> Result<(), Refusal>
 
 // What each write in doubt has become is found out and done, what is kept is learned, and what lies below the horizon is forgotten.
 fn care_for<D: Device>(world: &mut World<D>, shard: u8) -> Result<(), Refusal>
+    requires { shard < world.old.shards }
     ensures ok { OnOk result (CaresOn D.state D.honest D.moment D.left_since world.old world.new) }
     ensures err { IfErr result (λ e. RefusesCare D.state D.honest D.moment D.left_since world.old e world.new) }
+    ensures shards { world.new.shards ≡ world.old.shards }
 {
     serve(world, Care::Resolve(shard))?;
     serve(world, Care::Learn(shard))?;
@@ -42,6 +44,7 @@ fn care_for<D: Device>(world: &mut World<D>, shard: u8) -> Result<(), Refusal>
 }
 
 fn care_for_all<D: Device>(world: &mut World<D>, shards: Shards) -> Result<(), Refusal>
+    requires { shards ≡ world.old.shards }
     ensures ok { OnOk result (CaresOn D.state D.honest D.moment D.left_since world.old world.new) }
     ensures err { IfErr result (λ e. RefusesCare D.state D.honest D.moment D.left_since world.old e world.new) }
 {
@@ -64,11 +67,12 @@ pub(crate) fn settle<D: Device>(world: &mut World<D>) -> Result<(), Refusal>
 /// How far all nodes reach. `Damaged` where one reaches further than another: the devices are not all of one moment.
 pub(crate) fn reach<D: Device>(world: &World<D>) -> Result<Reach, Refusal>
     ensures ok { IfOk result (HaveReached D.state D.honest world.now.nodes world.now.shards) }
-    ensures err { IfErr result (λ e. ((name : AnyName) × RefusesAt D.state D.honest world.now.nodes name e) ⊎ (e ≡ Refusal.Damaged)) }
+    ensures err { IfErr result (λ e. ((name : AnyName) × RefusesAt D.state D.honest world.now.nodes name e) ⊎ ((e ≡ Refusal.Damaged) × AreApart D.state D.honest world.now.nodes world.now.shards)) }
 {
     let reach = reach_of(world, NodeName::Coordinator)?;
     for shard in 0..world.shards().count() {
-        if reach_of(world, NodeName::Shard(shard))? != reach {
+        let other = reach_of(world, NodeName::Shard(shard))?;
+        if other != reach {
             return Err(Refusal::Damaged);
         }
     }

@@ -11,6 +11,7 @@ use Rattle.cluster.specs.Ends.{EndsWith, IfEnded, TellsWrite}
 use Rattle.cluster.specs.Flows.{is_cancelled, next_name_of}
 use Rattle.cluster.specs.Steps.{GoesOn, HasGone, IsIdle, Leaves, Takes, TurnsIn, unless}
 use Rattle.cluster.specs.Turns.{Turns}
+use Rattle.cluster.proofs.Leaving.{left_later}
 use Rattle.cluster.specs.Worlds.{WorldView, flow_at, flow_count}
 use Rattle.cluster.specs.declared.event.Answer.TheVariants.{Wrote, Selected, Checked, Listed, Resolved, Done}
 use Rattle.cluster.specs.declared.event.What.{What}
@@ -121,13 +122,22 @@ module _ {D : Type 0} (gives : D → Type 0) (set : D → ℕ → Tear → Type 
         by_next None gone = (λ f at. absurd (no_flow f (sym gone.puts.at ∙ at)), subst IsOfWrite (sym gone.tells) (unless_told (is_cancelled later) gone.end (end_told later gone.end is gone.ends)))
         by_next (Some name) goes = (λ f at. subst IsWriteFlow (same_Some later f (sym goes.puts.at ∙ at)) is, subst IsOfWrite (sym goes.tells) (unless_told (is_cancelled later) (Some (Next name)) tt))
 
+    turned_write : (f : Flow) → IsWriteFlow f → TurnsIn state honest moment left_since old slot f told new → HasWrite slot new × IsOfWrite told
+    turned_write (flow.Write w) is (turn, same) =
+        let (later, turns, is_left) = turn.turns in
+        left later (stays_write old.shards old new (flow.Write w) later is turns) (left_later old.flows slot later turn.after told new.flows is_left turn.leaves)
+    turned_write (flow.Read v) is turn = absurd is
+    turned_write (flow.Check v) is turn = absurd is
+    turned_write (flow.Watch v) is turn = absurd is
+    turned_write (flow.Care v) is turn = absurd is
+
     turned : HasWrite slot old → Takes state honest moment left_since old (step.Turn slot) told new → HasWrite slot new × IsOfWrite told
     turned has takes = by_flow (flow_at old.flows slot) refl takes
       where
         by_flow : (o : Option Flow) → flow_at old.flows slot ≡ o
             → MatchOption o (IsIdle state honest moment left_since old told new) (λ f. TurnsIn state honest moment left_since old slot f told new) → HasWrite slot new × IsOfWrite told
         by_flow None at idle = (subst (HasWrite slot) (sym idle.1) has, subst IsOfWrite (sym idle.0) tt)
-        by_flow (Some f) at turn = left turn.0.later (stays_write old.shards old new f turn.0.later (has f at) turn.0.turns) turn.0.leaves
+        by_flow (Some f) at turn = turned_write f (has f at) turn
 
   all_turned : (slot : ℕ) (all : List (Option What)) (old new : WorldView D) → HasWrite slot old
       → going.Turns (Takes state honest moment left_since) IsNext slot None all old new → HasWrite slot new × IsOfWrite (last_told all)

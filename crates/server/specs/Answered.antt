@@ -26,12 +26,12 @@ module _ (before : ℕ) (seen : List Entry) where
   IsAnswerTo (requests.Watch from limit names) (answer.Events a) = WatchEnds from limit names.items before seen (listed a.heartbeat a.events.items)
   IsAnswerTo request a = ⊥
 
--- where there is an answer, it is one to the request
+-- if there is an answer, it is one to the request
 abbrev pub AnswersIfAny : (Answer → Type 0) → Result Answer Refusal → Type 0
 AnswersIfAny IsAnswer (Ok a) = IsAnswer a
 AnswersIfAny IsAnswer (Err e) = Unit {0}
 
--- The caller knows what it knew; and an answer, where the store's devices rested when it was opened, is one to the request, of the list that it has then seen.
+-- The caller knows what it knew; and an answer, if the store's devices rested when it was opened, is one to the request, of the list that it has then seen.
 pub record Answered (rests : Type 0) (old new : Known Entry) (request : Request) (result : Result Answer Refusal) : Type 0 where
   pub later : IsLater old new
   pub answers : rests → AnswersIfAny (IsAnswerTo (length old.seen) new.seen request) result

@@ -63,7 +63,7 @@ impl DownNodes {
     }
 }
 
-/// Tells whoever keeps the server running of each node that goes down, as soon as it is found, and of each checkpoint that is put off.
+/// Tells the operator of each node that goes down, as soon as it is found, and of each checkpoint that is put off.
 #[derive(Drop)]
 pub(crate) struct NodeLines<'a, R: Eprint> {
     pub rt: &'a R,

@@ -12,7 +12,7 @@ pub struct Found {
     pub bytes: u64,
     /// Whether the store was made.
     pub is_new: bool,
-    /// That the coordinator's files are of another store, where they tell so.
+    /// That the coordinator's files are of another store, if they tell so.
     pub other: Option<Cause>,
 }
 

@@ -50,7 +50,7 @@ impl<'a> Hanging<'a> {
         }
     }
 
-    /// Looks, if it has not looked within the last second. Where the clock can't be read nothing is told.
+    /// Looks, if it has not looked within the last second. If the clock can't be read nothing is told.
     pub(crate) fn look(&mut self, rt: &(impl Eprint + Clock)) {
         let Ok(now) = Instant::now(rt) else {
             return;

@@ -47,7 +47,7 @@ fn learn<D: Device, B: Room, G: Gate, R: Wait>(
     }
 }
 
-/// Each shard learns what the coordinator keeps. One that can't, as where its file was lost, keeps the server from starting.
+/// Each shard learns what the coordinator keeps. One that can't, for example since its file was lost, keeps the server from starting.
 pub(crate) fn learn_all<D: Device, B: Room, G: Gate, R: Wait>(
     rt: &R,
     alloc: Global,
@@ -101,7 +101,7 @@ pub(crate) fn blamed<D: Device, B: Room, G: Gate, R: Wait>(
     Fault::Refused(Trouble::from(refusal))
 }
 
-/// The first shard that is not of one moment with the coordinator, where one is not.
+/// The first shard that is not of one moment with the coordinator, if one is not.
 pub(crate) fn apart(found: &LookedOver) -> Fault {
     let mut shard = 0u8;
     for place in &found.learned {

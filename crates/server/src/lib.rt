@@ -1,14 +1,14 @@
 //! A server: a store over the files of a folder, and sessions over TCP.
 //!
-//! Keeps: nobody is served before each node was opened and looked over, each shard has learned what is kept, and the address was bound; `ready` is printed once all its threads run behind that,
+//! Keeps: nobody is served before each node was opened and looked over, each shard has learned what is kept, and the address was bound; `ready` is printed once all its threads run after that,
 //! and not before.
 //! Never: answers from what an earlier request has found: each worker answers by a session over the one store, which goes on knowing what was seen.
-//! Callers rely on: the status, 0 where as many connections as were asked for came and were served, and 1 behind a fault, once standard error is told of it.
+//! Callers rely on: the status, 0 if as many connections as were asked for came and were served, and 1 after a fault, once standard error is told of it.
 //!
 //! What each answer line says is the contract of `serve_one` (`serving`) at a session of the store (`StoreSession`): the definition's value on the list that
 //! its caller has then seen, so a write stands there at its place, and rows, membership and events are those of the place that is told, as fresh as asked.
-//! It has one premise, the only one of `serve_over`: that what was found in the files rests at one list, of which the coordinator's files have what is behind
-//! its base (`IsAtRest`, whose laws say that what a stop leaves meets it, behind checkpoints too). Why a request is refused the calls of `Store` say, and not
+//! It has one premise, the only one of `serve_over`: that what was found in the files rests at one list, of which the coordinator's files have what comes after
+//! its base (`IsAtRest`, whose laws say that what a stop leaves meets it, after checkpoints too). Why a request is refused the calls of `Store` say, and not
 //! these: the refusals that nodes told are let go with each request.
 //!
 //! Only tested: which fault is told, what is told of a start, of nodes that are down and of connections that wait, that `ready` is printed and when, and that the

@@ -23,17 +23,17 @@ use std::sync::{Arc, Wait};
 use std::thread::{self, Threads};
 use std::time::Instant;
 
-/// Serves the store that the folder keeps, or a new one where its files are missing, to those who connect. The status: 0 once as many connections were
-/// served as the settings ask for, and 1 behind a fault, of which standard error is told:
+/// Serves the store that the folder keeps, or a new one if its files are missing, to those who connect. The status: 0 once as many connections were
+/// served as the settings ask for, and 1 after a fault, of which standard error is told:
 ///
 /// | Line | Fault |
 /// |---|---|
-/// | `zanstore: 13 Down` | the folder or a file of it can't be opened, another process has it, or there is no store where one has to be |
+/// | `zanstore: 13 Down` | the folder or a file of it can't be opened, another process has it, or there is no store, and one has to be there |
 /// | `zanstore: 16 Damaged` | what is in the files was not left there by this store |
 /// | `zanstore: 14 NoMemory` | there is no memory for the store |
 /// | `zanstore: listen` | the address can't be bound |
 ///
-/// Behind a number a second line tells which file, folder or node it is about, if that is known. They are looked for in the order files, nodes (the coordinator, and then the shards by rising number), address; `ready` is printed behind them.
+/// After a number a second line tells which file, folder or node it is about, if that is known. They are looked for in the order files, nodes (the coordinator, and then the shards by rising number), address; `ready` is printed after them.
 ///
 /// What sessions answer is said of any list at which the files rest: no code has it, so this holds whichever it is.
 pub fn serve<R>(rt: &R, files: &HostRuntime, settings: &ServeSettings) -> u8
@@ -85,8 +85,8 @@ where
 }
 
 /// Opens the store over its devices, in which this was found, and serves it as `serve` does. The pulses, two for each
-/// node, tell whether a disk hangs. Where the devices rest at the room's first list, all that sessions answer is said of that
-/// list and of what joins it; no other premise is taken. Of a list at which they rest the coordinator's devices have what is behind its base, which is the
+/// node, tell whether a disk hangs. If the devices rest at the room's first list, all that sessions answer is said of that
+/// list and of what joins it; no other premise is taken. Of a list at which they rest the coordinator's devices have what comes after its base, which is the
 /// whole of it before its first checkpoint.
 pub fn serve_over<D: Device + Send + Sync, B: Room + Send + Sync, G: Gate + Sync, R>(
     rt: &R,
@@ -125,7 +125,7 @@ where
             requires rests { B.rests ↔ IsAtRest D.state D.honest B.shards B.first devices.items }
             ensures { (result ≡ 0) ⊎ (result ≡ 1) }
         {
-            // Where there is no thread for it, nobody is told how long the opening takes.
+            // If there is no thread for it, nobody is told how long the opening takes.
             let _ = scope.spawn(move || progress.tell(rt, settings.dir.as_str(), "being opened"));
             let status = open_and_serve::<D, B, G, R>(
                 rt, alloc, settings, progress, found, pulses, gate, parker, parts, devices,

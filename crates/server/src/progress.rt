@@ -6,12 +6,12 @@ use std::sync::atomic::{AtomicU64, Ordering};
 use std::thread::Parker;
 use std::time::{Clock, Duration, Instant};
 
-// It is told behind the first second, and then ever more rarely, but once a minute.
+// It is told after the first second, and then ever more rarely, but once a minute.
 const FIRST: u64 = 1;
 
 const LAST: u64 = 60;
 
-/// Whether something goes on still, for whoever tells how long it takes.
+/// Whether something goes on still, for the one who tells how long it takes.
 #[derive(Drop)]
 pub struct Progress {
     parker: Parker,

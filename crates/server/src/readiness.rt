@@ -11,7 +11,7 @@ use std::time::Clock;
 pub(crate) struct Readiness<'a, R: Print> {
     rt: &'a R,
     missing: AtomicU64,
-    // none where the system does not tell it
+    // none if the system does not tell it
     address: Option<SocketAddr>,
 }
 
@@ -31,7 +31,7 @@ impl<R: Print + Eprint + Clock> Begun for Readiness<'_, R> {
         if self.missing.fetch_sub(1, Ordering::SeqCst) == 1 {
             tell_address(self.rt, self.address);
             if let Err(error) = print_ready(self.rt) {
-                // Whoever waits for the line may be gone, which keeps nobody from being served.
+                // The reader of the line may be gone, which keeps nobody from being served.
                 let stamp = Stamp::now(self.rt);
                 let _ = eprintln!(self.rt;
                     "zanstore: {stamp}ready, which can't be printed: {error}"
@@ -41,7 +41,7 @@ impl<R: Print + Eprint + Clock> Begun for Readiness<'_, R> {
     }
 }
 
-// With its port, which the system chose where 0 was asked for.
+// With its port, which the system chose if 0 was asked for.
 fn tell_address(rt: &(impl Eprint + Clock), address: Option<SocketAddr>) {
     if let Some(address) = address {
         let stamp = Stamp::now(rt);

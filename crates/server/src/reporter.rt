@@ -23,7 +23,7 @@ impl Minutely {
         Minutely { last: None }
     }
 
-    // Whether it is to be told now, for which it then counts as told. It never is where the clock can't be read.
+    // Whether it is to be told now, for which it then counts as told. It never is if the clock can't be read.
     fn is_due(&mut self, clock: &impl Clock) -> bool {
         let Ok(now) = Instant::now(clock) else {
             return false;
@@ -38,7 +38,7 @@ impl Minutely {
     }
 }
 
-/// Tells whoever keeps the server running what keeps it from serving, and again each minute while that lasts. Nothing depends on a line, so that it can't be
+/// Tells the operator what keeps the server from serving, and again each minute while that lasts. Nothing depends on a line, so that it can't be
 /// printed keeps nobody from being served.
 #[derive(Drop)]
 pub(crate) struct Reporter<'a, R: Eprint> {
@@ -47,7 +47,7 @@ pub(crate) struct Reporter<'a, R: Eprint> {
     ends_when_down: bool,
     crowded: Minutely,
     refused: Minutely,
-    // as whoever found it told it
+    // as the one who found it told it
     told_down: Minutely,
     hanging: Hanging<'a>,
     share: &'a Share,

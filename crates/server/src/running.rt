@@ -60,7 +60,7 @@ where
     }
 }
 
-// The fault on standard error, and behind an address that can't be bound what it is and why. The status.
+// The fault on standard error, and after an address that can't be bound what it is and why. The status.
 fn told(rt: &impl Eprint, settings: &ServeSettings, fault: &Fault) -> u8
     ensures { result ≡ 1 }
 {
@@ -195,7 +195,7 @@ fn window_of(settings: &ServeSettings) -> Window
     }
 }
 
-// Serves those who connect, while another thread tends the store. Where a thread can't be made the server ends, and has not said that it is ready.
+// Serves those who connect, while another thread tends the store. If a thread can't be made the server ends, and has not said that it is ready.
 fn serve_at<D: Device + Send + Sync, B: Room + Send + Sync, G: Gate + Sync, R>(
     rt: &R,
     alloc: Global,

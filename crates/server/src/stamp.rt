@@ -13,7 +13,7 @@ const LAST_YEAR: u64 = 9999;
 
 const LAST_MONTH: u64 = 12;
 
-/// When a line is told: a time of UTC and a space, as `2026-11-30T10:40:01Z `, or nothing where the clock can't be read.
+/// When a line is told: a time of UTC and a space, as `2026-11-30T10:40:01Z `, or nothing if the clock can't be read.
 #[derive(Clone, Copy)]
 pub(crate) struct Stamp {
     // since the first of January 1970

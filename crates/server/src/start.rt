@@ -51,7 +51,7 @@ impl fmt::Display for Budgets {
     }
 }
 
-// Where the clock can't be read, it is not known.
+// If the clock can't be read, it is not known.
 fn since(rt: &impl Clock, began: Option<Instant>) -> Option<Duration> {
     began?.elapsed(rt).ok()
 }

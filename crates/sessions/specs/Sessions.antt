@@ -1,6 +1,9 @@
 -- What a session writes for what it reads.
 use Rattle.std.specs.Prelude.{◌≡◌, ◌≤◌, ◌<◌, ◌⊎◌, ℕ, List, [], ◌∷◌, ◌++◌, length, flat_map, All, Option, Some, None, Result, Ok, Err}
 use Rattle.std.specs.Io.KnownBytes.{Appends, Consumes, IsAtEnd}
+use Rattle.std.specs.IoError.{error_kind}
+use Rattle.std.specs.declared.io.Error.{Error}
+use Rattle.std.specs.declared.io.ErrorKind.TheVariants.{OutOfMemory}
 use Rattle.tuples.specs.Limits.{max_line}
 use Rattle.refusal.specs.declared.refusal.Refusal.{Refusal}
 use Rattle.refusal.specs.declared.refusal.Refusal.TheVariants.{TooLarge}
@@ -82,3 +85,11 @@ pub record Broke {A : Type 0} (store : ℕ) (gives : Giving A) (in_before in_aft
   pub session : Session store gives a lines text b
   pub of_end : (end ≡ []) ⊎ (IsAtEnd in_after × HasNoFeed rest × (end ≡ end_text rest))
   pub written : HasBegun out_before out_after (text ++ end)
+
+-- why a session could not go on: memory was refused, or a call of a stream that tells such errors told this one
+abbrev pub IsCause : (Error → Type 0) → Error → Type 0
+IsCause tells e = (error_kind e ≡ OutOfMemory) ⊎ tells e
+
+-- the reader or the writer told it
+abbrev pub EitherTells : (Error → Type 0) → (Error → Type 0) → Error → Type 0
+EitherTells reads writes e = reads e ⊎ writes e

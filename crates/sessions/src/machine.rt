@@ -1,9 +1,9 @@
 // Lines that come and answers that wait.
-ghost use Rattle.std.specs.Prelude.{◌≡◌, ◌<◌, ◌++◌, ◌⊎◌, [], List, ℕ, length, true, false, None, IfOk, OnOk, OnErr, IsTrue};
+ghost use Rattle.std.specs.Prelude.{◌≡◌, ◌<◌, ◌↔◌, ◌++◌, ◌⊎◌, [], List, ℕ, length, true, false, None, IfErr, IfOk, OnOk, OnErr, IsTrue};
 ghost use Rattle.std.specs.Io.KnownBytes.{Keeps};
 ghost use Rattle.line_io.specs.Blocks.{Refills, TakesPart, unread};
 ghost use Rattle.line_io.specs.Lines.{Holds};
-ghost use Rattle.sessions.specs.Sessions.{end_text};
+ghost use Rattle.sessions.specs.Sessions.{IsCause, end_text};
 ghost use Rattle.sessions.specs.Bounds.{IsBounded};
 ghost use Rattle.sessions.specs.Unsent.{unsent};
 ghost use Rattle.sessions.specs.Machines.{AnswersLine, GoesOn, IsNew, left_of, phase_after};
@@ -11,9 +11,9 @@ ghost use Rattle.sessions.specs.Machines.{AnswersLine, GoesOn, IsNew, left_of, p
 use crate::asking::Answers;
 use crate::reply::reply_to;
 use crate::waiting::Waiting;
-use line_io::{Block, Line};
+use line_io::{Block, Line, Reader};
 use std::alloc::{AllocError, Global};
-use std::io::{self, Read};
+use std::io;
 
 /// How far the answers are behind the lines.
 #[derive(Clone, Copy, PartialEq, Eq)]
@@ -64,12 +64,13 @@ impl Machine {
 
     /// Reads once, where all that was read is looked at and nothing waits to be written: who sent these lines may wait for their
     /// answers. Whether bytes came: none at the end of the input. A read that failed gives the block back.
-    pub(crate) fn read_from<R: Read>(&mut self, alloc: Global, input: &mut R) -> io::Result<bool>
+    pub(crate) fn read_from<R: Reader>(&mut self, alloc: Global, input: &mut R) -> io::Result<bool>
         requires looked { left_of self.old.block ≡ [] }
         requires written { unsent self.old.waiting ≡ [] }
         ensures ok { IfOk result (λ has. Refills has (R.remaining input.old) (R.remaining input.new) [] (left_of self.new.block)) }
         ensures err { OnErr result (Keeps (R.remaining input.old) (R.remaining input.new)) }
         ensures none { OnErr result (left_of self.new.block ≡ []) }
+        ensures cause { IfErr result (IsCause R.tells) }
         ensures rest { (self.new.line ≡ self.old.line) × (self.new.waiting ≡ self.old.waiting) × (self.new.phase ≡ self.old.phase) }
     {
         let mut block = self.take_block(alloc)?;
@@ -182,7 +183,7 @@ impl Machine {
 
     /// Whether all that was read is looked at.
     pub(crate) fn is_looked_at(&self) -> bool
-        ensures { IsTrue result → left_of self.now.block ≡ [] }
+        ensures { IsTrue result ↔ (left_of self.now.block ≡ []) }
     {
         match &self.block {
             Some(block) => block.taken == block.filled,

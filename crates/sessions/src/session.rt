@@ -1,17 +1,18 @@
 // A session between two turns.
-ghost use Rattle.std.specs.Prelude.{◌≡◌, ◌<◌, ◌≤◌, ◌++◌, ◌∷◌, ◌↔◌, [], List, ℕ, false, length, take, drop, Ok, IfOk, OnOk, OnErr, IsTrue};
+ghost use Rattle.std.specs.Prelude.{◌≡◌, ◌<◌, ◌≤◌, ◌++◌, ◌∷◌, ◌↔◌, [], List, ℕ, false, length, take, drop, Ok, IfErr, IfOk, OnOk, OnErr, IsTrue};
 ghost use Rattle.std.specs.Io.KnownBytes.{Consumes, IsAtEnd, Keeps};
 ghost use Rattle.sessions.specs.Unsent.{unsent};
 ghost use Rattle.sessions.specs.Bounds.{IsBounded};
+ghost use Rattle.sessions.specs.Sessions.{IsCause};
 ghost use Rattle.sessions.specs.Machines.{IsSession, Stands, all_read, all_written, left_of};
 
 use crate::asking::Answers;
 use crate::machine::{Machine, Phase, Turn};
 use crate::waiting::Waiting;
 use http_server::Log;
-use line_io::Block;
+use line_io::{Block, Reader};
 use std::alloc::{AllocError, Global};
-use std::io::{self, Read};
+use std::io;
 
 /// One client's session, which any thread may go on with: read into it, `answer`, write its `output` and tell it by `sent`, and `park` it where
 /// nothing is to be read.
@@ -53,9 +54,7 @@ impl<A: Answers> Session<A> {
 
     /// Whether it may be read into: it goes on, no whole line is left, and nothing waits to be written.
     pub fn may_read(&self) -> bool
-        ensures open { IsTrue result → self.now.machine.phase ≡ Phase.Open }
-        ensures looked { IsTrue result → left_of self.now.machine.block ≡ [] }
-        ensures written { IsTrue result → unsent self.now.machine.waiting ≡ [] }
+        ensures { IsTrue result ↔ ((self.now.machine.phase ≡ Phase.Open) × (left_of self.now.machine.block ≡ []) × (unsent self.now.machine.waiting ≡ [])) }
     {
         matches!(self.machine.phase, Phase::Open)
             && self.machine.is_looked_at()
@@ -63,13 +62,14 @@ impl<A: Answers> Session<A> {
     }
 
     /// Reads once, where no whole line is left and nothing waits to be written. Whether bytes came: none at the end of the input, which `end` is told.
-    pub fn read_from<R: Read>(&mut self, alloc: Global, input: &mut R) -> io::Result<bool>
+    pub fn read_from<R: Reader>(&mut self, alloc: Global, input: &mut R) -> io::Result<bool>
         requires open { self.old.machine.phase ≡ Phase.Open }
         requires looked { left_of self.old.machine.block ≡ [] }
         requires written { unsent self.old.machine.waiting ≡ [] }
         ensures ok { IfOk result (λ has. Consumes (R.remaining input.old) (R.remaining input.new) (left_of self.new.machine.block) × (all_read self.new.read.items ≡ all_read self.old.read.items ++ left_of self.new.machine.block)) }
         ensures end { result ≡ Ok false → IsAtEnd (R.remaining input.new) × (left_of self.new.machine.block ≡ []) }
         ensures err { OnErr result (Keeps (R.remaining input.old) (R.remaining input.new) × (self.new.read ≡ self.old.read) × (left_of self.new.machine.block ≡ [])) }
+        ensures cause { IfErr result (IsCause R.tells) }
         ensures rest { (self.new.first ≡ self.old.first) × (self.new.store ≡ self.old.store) × (self.new.written ≡ self.old.written) × (self.new.machine.waiting ≡ self.old.machine.waiting) × (self.new.machine.phase ≡ self.old.machine.phase) }
     {
         let has_bytes = self.machine.read_from(alloc, input)?;

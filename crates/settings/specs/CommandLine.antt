@@ -16,7 +16,7 @@ use Rattle.clap.specs.declared.error.kind.ErrorKind.TheVariants.{DisplayHelp, Di
 
 -- ---- the command
 
--- `--NAME VALUE` or `--NAME=VALUE`, with what it is read by and what it is where it is not given
+-- `--NAME VALUE` or `--NAME=VALUE`, with what it is read by and what it is if it is not given
 abbrev pub option_named : Text → ValueParser → Text → Rule
 option_named name parser default = record (new_rule name) {
   long = Some name;
@@ -45,13 +45,13 @@ program =
 
 -- ---- which command a command line is for
 
--- by the words behind the program's name: the second one is the command's name, or `help`, and the command's name stands behind that
+-- by the words after the program's name: the second one is the command's name, or `help`, and the command's name follows that
 abbrev pub IsFor : Option Text → Option Text → Text → Type 0
 IsFor second third command = (second ≡ Some command) ⊎ ((second ≡ Some (codes "help")) × (third ≡ Some command))
 
 -- ---- a command line, in its own words
 
--- the number that decimal digits spell, where a plus may stand first
+-- the number that decimal digits spell; a plus may stand first
 abbrev pub number : Text → ℕ
 number text = digits_value 10 (without_leading_plus text)
 
@@ -86,7 +86,7 @@ pub record IsLine (words : List Text) (store shards : Option Text) : Type 0 wher
   pub in_order : (words ≡ name ∷ codes "sim" ∷ (store_words ++ shards_words ++ end))
       ⊎ (words ≡ name ∷ codes "sim" ∷ (shards_words ++ store_words ++ end))
 
--- the number of the text, and this one where there is none
+-- the number of the text, and this one if there is none
 abbrev pub number_or : ℕ → Option Text → ℕ
 number_or default text = option_map_or number text default
 

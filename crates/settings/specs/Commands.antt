@@ -10,7 +10,7 @@ use Rattle.settings.specs.declared.reshard.ReshardSettings.{ReshardSettings}
 
 -- ---- the options
 
--- an option that a command line must give, and one that is this text where it is not given
+-- an option that a command line must give, and one that is this text if it is not given
 abbrev pub wanted : Rule → Rule
 wanted rule = record rule { required = true }
 
@@ -69,7 +69,7 @@ call_options =
     ∷ rule_taking (codes "words") takes.Rest
     ∷ []
 
--- ---- what is asked for, where `told NAME DEFAULT` is the text of an option: what words give it, and else its default
+-- ---- what is asked for; `told NAME DEFAULT` is the text of an option: what words give it, and else its default
 
 pub record ToServe (told : Text → Option Text → Option Text) (s : ServeSettings) : Type 0 where
   pub dir : told (codes "dir") None ≡ Some (string_bytes s.dir)

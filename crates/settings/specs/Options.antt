@@ -14,7 +14,7 @@ use Rattle.settings.specs.declared.parameter.Otherwise.TheVariants as otherwise
 
 -- ---- the program
 
--- an option by what stands behind its name
+-- an option by what follows its name
 abbrev pub rule_taking : Text → Takes → Rule
 rule_taking name takes.Text = record (new_rule name) { long = Some name; action = Some Set; value_names = 1 }
 rule_taking name (takes.Number least most) = record (new_rule name) { long = Some name; action = Some Set; value_names = 1; parser = Some (Unsigned least most) }
@@ -51,13 +51,13 @@ app_with name options = with_subcommand (on_top (λ s. record s { subcommand_req
 abbrev pub built_command : Text → List Rule → Shape
 built_command name options = built_leaf (inherited (marked_built (app_with name options).top) (command_shape name options))
 
--- what stands in the words behind the command's name: a row for each option that they name
+-- what stands in the words after the command's name: a row for each option that they name
 abbrev pub written : Text → List Rule → List Text → List Row
 written name options rest =
     let rules = (built_command name options).rules in
     (settled rules (walk rules [] nothing_held rest).held).rows
 
--- the text that they give the option, and this one where they don't name it
+-- the text that they give the option, and this one if they don't name it
 abbrev pub text_or : Option Text → List Row → Text → Option Text
 text_or default rows option = if has_row option rows then first_of option rows else default
 

@@ -139,7 +139,7 @@ impl Asked for CallSettings {
 
     ghost options = { call_options };
 
-    // What stands behind the address may begin with a hyphen, so `clap` doesn't say what it makes of the words.
+    // What follows the address may begin with a hyphen, so `clap` doesn't say what it makes of the words.
     ghost asks = { λ told s. Unit {0} };
 
     fn program<'a>(alloc: Global) -> Result<Command<'a>, Error> {
@@ -192,7 +192,7 @@ fn retry_of(call: &ArgMatches) -> Option<u64>
     }
 }
 
-// The words with a space between; none where there are none.
+// The words with a space between; none if there are none.
 fn joined(alloc: Global, words: &[&str]) -> Result<Option<String>, AllocError> {
     if words.is_empty() {
         return Ok(None);

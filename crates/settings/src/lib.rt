@@ -3,7 +3,7 @@
 //! Keeps: each number of the settings is within its range, and the status of words that give none is 0 or 2. Those of all commands but `call` are what the words ask for.
 //! Never: looks at a folder, at an address or at the words of a request.
 //! Words that ask for a script are refused for memory alone.
-//! Callers rely on: whether the words are for a command, and its settings, or the status to end with, once the user is told. Whoever names no command is told which there are.
+//! Callers rely on: whether the words are for a command, and its settings, or the status to end with, once the user is told. Who names no command is told which there are.
 //! Only tested: of `call`, that the settings are what the words ask for; of the commands but `sim`, that words which ask for settings get them, and that 0 is for help and 2 for a mistake.
 //! What help and mistakes print is `clap`'s, and no test here reads it.
 //!

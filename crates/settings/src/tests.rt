@@ -11,7 +11,7 @@ enum Reader {
     Call,
 }
 
-// Lines, and behind each the settings that it asks for, or the status to end with: 2 for one without an option that has to be there, with a number out of its range, or with
+// Lines, and after each the settings that it asks for, or the status to end with: 2 for one without an option that has to be there, with a number out of its range, or with
 // what there is not; 0 for help. They are texts, since a list of as many rows takes long to be proved wherever it is read.
 const SERVE: &str =
     r#"zanstore serve --dir data --store=7 --shards 2 --listen 127.0.0.1:7700 --workers=4 => Ok(ServeSettings { dir: "data", store: 7, shards: Shards { count: 2 }, listen: "127.0.0.1:7700", workers: 4, window: 1000000, window_mib: 4096, answer_mib: 1024, connections: 0, idle: 10, existing: false, end_when_down: false })
@@ -157,7 +157,7 @@ fn is_for(reader: Reader, words: &[String]) -> bool {
     }
 }
 
-// Whether the line of a row is told what stands behind it.
+// Whether the line of a row is told what follows it.
 fn is_right(rt: &HostRuntime, reader: Reader, row: &str) -> Result<bool, AllocError> {
     let Some((line, wanted)) = row.split_once(" => ") else {
         return Ok(false);

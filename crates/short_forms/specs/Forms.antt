@@ -17,7 +17,7 @@ pub data Asked : Type 0 where
   exists : List ℕ → Asked
   absent : List ℕ → Asked
 
--- Which places may answer; the latest, where nothing is said.
+-- Which places may answer; the latest, if nothing is said.
 pub data Fresh : Type 0 where
   unsaid : Fresh
   latest : Fresh
@@ -50,7 +50,7 @@ fresh_words latest = codes "latest" ∷ []
 fresh_words (at_least z) = codes "at-least" ∷ z ∷ []
 fresh_words (exact z) = codes "exact" ∷ z ∷ []
 
--- if and the conditions; nothing where there are none
+-- if and the conditions; nothing if there are none
 abbrev pub if_words : List (List ℕ) → List (List ℕ)
 if_words [] = []
 if_words (word ∷ words) = codes "if" ∷ word ∷ words
@@ -67,7 +67,7 @@ IsAsked (since t z) = ((rest : List ℕ) → t ≡ 63 ∷ rest → ⊥) × ((res
 IsAsked (exists t) = Unit {0}
 IsAsked (absent t) = Unit {0}
 
--- where no freshness is said, the words behind it are those of none
+-- if no freshness is said, the words after it are those of none
 abbrev pub IsOpened : Fresh → List (List ℕ) → Type 0
 IsOpened unsaid rest = (f : Fresh) (more : List (List ℕ)) → rest ≡ fresh_words f ++ more → f ≡ unsaid
 IsOpened latest rest = Unit {0}

@@ -56,7 +56,7 @@ SpellsNone words = (s : Short) → HasShort words s → ⊥
 abbrev pub IsMistaken : Type 0 → Mistake → Type 0
 IsMistaken Cause e = (e ≡ NoMemory) ⊎ Cause
 
--- the words are those of a freshness and what stands behind it
+-- the words are those of a freshness and what follows it
 pub record IsOpening (words : List (List ℕ)) (f : Fresh) (rest : List (List ℕ)) : Type 0 where
   pub whole : words ≡ fresh_words f ++ rest
   pub opened : IsOpened f rest

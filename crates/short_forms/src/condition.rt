@@ -35,7 +35,7 @@ pub(crate) fn parse_condition(word: &str) -> Option<Condition<'_>>
     }
 }
 
-// What stands behind the mark.
+// What follows the mark.
 fn marked(word: &str, mark: char) -> Option<&str>
     requires { mark < 128 }
     ensures { MatchOption result ((rest : List ℕ) → word.now ≡ mark ∷ rest → ⊥) (λ rest. word.now ≡ mark ∷ rest.now) }

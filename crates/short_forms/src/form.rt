@@ -7,7 +7,7 @@ pub(crate) enum Change<'a> {
     Delete(&'a str),
 }
 
-/// What a write asks of a tuple; a token stands behind its tuple.
+/// What a write asks of a tuple; a token follows its tuple.
 #[derive(Clone, Copy)]
 pub(crate) enum Condition<'a> {
     Since(&'a str, &'a str),

@@ -4,7 +4,7 @@ ghost use Rattle.short_forms.specs.Reading.{IsOpening, fresh_view, texts};
 use crate::form::Freshness;
 use crate::words::{behind, word_behind};
 
-/// The freshness that stands first, if one does, and the words behind it.
+/// The freshness that stands first, if one does, and the words after it.
 pub(crate) fn parse_freshness<'a>(words: &'a [&'a str]) -> (Freshness<'a>, &'a [&'a str])
     ensures { IsOpening (texts words.now) (fresh_view result.0) (texts result.1.now) }
 {

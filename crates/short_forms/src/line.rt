@@ -10,7 +10,7 @@ use crate::mistake::Mistake;
 use crate::words::split_words;
 use std::alloc::Global;
 
-/// The request line of a text, without a line feed: the text as it is where it begins with `{`, and else the JSON of the request that its words stand for.
+/// The request line of a text, without a line feed: the text as it is if it begins with `{`, and else the JSON of the request that its words stand for.
 /// Whether a server takes the texts in it, the server says.
 pub fn request_line(alloc: Global, text: &str) -> Result<String, Mistake>
     ensures json { IfOk result (λ line. IsJson text.now → string_bytes line ≡ text.now) }

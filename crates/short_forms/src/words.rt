@@ -4,14 +4,14 @@ ghost use Rattle.short_forms.specs.Reading.{texts, words_of};
 
 use std::alloc::{AllocError, Global};
 
-/// What stands between the spaces of a line: one word at least, and an empty one where a space has no word beside it.
+/// What stands between the spaces of a line: one word at least, and an empty one if a space has no word beside it.
 pub(crate) fn split_words(alloc: Global, line: &str) -> Result<Vec<&str>, AllocError>
     ensures { IfOk result (λ words. texts words.items ≡ words_of line.now) }
 {
     line.split(' ').collect(alloc)
 }
 
-/// The words behind the first, where that is this one.
+/// The words after the first, if that is this one.
 pub(crate) fn behind<'a>(words: &'a [&'a str], name: &str) -> Option<&'a [&'a str]>
     ensures { MatchOption result ((rest : List (List ℕ)) → texts words.now ≡ name.now ∷ rest → ⊥) (λ rest. texts words.now ≡ name.now ∷ texts rest.now) }
 {
@@ -21,7 +21,7 @@ pub(crate) fn behind<'a>(words: &'a [&'a str], name: &str) -> Option<&'a [&'a st
     if *first == name { Some(rest) } else { None }
 }
 
-/// The word behind this first one, and the words behind both.
+/// The word after this first one, and the words after both.
 pub(crate) fn word_behind<'a>(words: &'a [&'a str], name: &str) -> Option<(&'a str, &'a [&'a str])>
     ensures { MatchOption result ((word : List ℕ) (rest : List (List ℕ)) → texts words.now ≡ name.now ∷ word ∷ rest → ⊥) (λ p. texts words.now ≡ name.now ∷ p.0.now ∷ texts p.1.now) }
 {
@@ -44,7 +44,7 @@ pub(crate) fn only<'a>(words: &'a [&'a str]) -> Option<&'a str>
     Some(*word)
 }
 
-/// The first two words, and the words behind them.
+/// The first two words, and the words after them.
 pub(crate) fn two_and_more<'a>(words: &'a [&'a str]) -> Option<(&'a str, &'a str, &'a [&'a str])>
     ensures { MatchOption result ((a b : List ℕ) (rest : List (List ℕ)) → texts words.now ≡ a ∷ b ∷ rest → ⊥) (λ p. texts words.now ≡ p.0.now ∷ p.1.now ∷ texts p.2.now) }
 {

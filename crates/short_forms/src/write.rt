@@ -13,7 +13,7 @@ use crate::words::behind;
 use serde_json::{Map, Value};
 use std::alloc::{AllocError, Global};
 
-/// Puts the members of the write that stands behind `write`.
+/// Puts the members of the write that follows `write`.
 pub(crate) fn put_write(
     object: &mut Map<String, Value>,
     alloc: Global,
@@ -31,7 +31,7 @@ pub(crate) fn put_write(
     }
 }
 
-// Puts the changes that stand first, one at least; the words behind them.
+// Puts the changes that stand first, one at least; the words after them.
 fn put_changes<'a>(
     object: &mut Map<String, Value>,
     alloc: Global,
@@ -52,7 +52,7 @@ fn put_changes<'a>(
     }
 }
 
-// Appends the changes that stand first; the words behind them.
+// Appends the changes that stand first; the words after them.
 fn push_changes<'a>(
     list: &mut Vec<Value>,
     alloc: Global,
@@ -69,7 +69,7 @@ fn push_changes<'a>(
     Ok(&[])
 }
 
-// Puts the conditions that stand behind `if`, one at least; none where there are no words.
+// Puts the conditions that follow `if`, one at least; none if there are no words.
 fn put_conditions(
     object: &mut Map<String, Value>,
     alloc: Global,

@@ -136,7 +136,7 @@ abbrev pub TellsDecided : List Entry → Reply → Type 0
 TellsDecided seen (from_coordinator (told.Decide (Ok decided))) = length seen < decided.place
 TellsDecided seen reply = Unit {0}
 
--- A decision that is kept has its place. Where it is known as one of a write, that stands there in the list, its id once. One that is not kept yet comes back.
+-- A decision that is kept has its place. If it is known as one of a write, that write stands there in the list, its id once. One that is not kept yet comes back.
 abbrev pub TellsKept : List Entry → List Attempt → DecidedValue → Reply → Type 0
 TellsKept seen tried decided (from_coordinator (told.Outcome (Kept place))) = (place ≡ decided.place) × ((w : Entry) → IsTried tried decided w → StandsAt place w seen)
 TellsKept seen tried decided (from_coordinator (told.Outcome (Later back))) = back ≡ decided

@@ -16,15 +16,15 @@ use Rattle.ties.specs.Ties.{Anywhere, Attempt, behind}
 abbrev pub nothing : Entry
 nothing = record { id = record { epoch = 0; number = 0 }; changes = []; conditions = [] }
 
--- just so many writes: the first of these, and behind the last of them writes that were never made
+-- just so many writes: the first of these, and after the last of them writes that were never made
 abbrev pub exactly : ℕ → List Entry → List Entry
 exactly n writes = take n (writes ++ replicate n nothing)
 
--- Where the heads count these writes, and tell a horizon among them that is no lower than this one, the list is then these, and their horizon.
+-- If the heads count these writes, and tell a horizon among them that is no lower than this one, the list is then these, and their horizon.
 abbrev pub FollowsHeads : List Entry → ℕ → HeadsValue → List Entry → ℕ → Type 0
 FollowsHeads writes low heads seen horizon = heads.kept ≡ length writes → heads.horizon ≤ heads.kept → low ≤ heads.horizon → (seen ≡ writes) × (horizon ≡ heads.horizon)
 
--- what is kept behind the list
+-- what is kept after the list
 abbrev pub behind_in : {D : Type 0} → List Entry → Option (NodeView D) → List Entry
 behind_in seen (Some (coordinator v)) = behind seen (kept_of v)
 behind_in seen _ = []
@@ -50,7 +50,7 @@ module _ {D : Type 0} (state : D → State) (honest : D → Type 0) where
   AreHeadsOf None heads = Unit {0}
 
   module _ (store shards : ℕ) where
-    -- A coordinator that is up is tied to the list with what is kept behind it. Where it is down, a stop leaves the list of its devices.
+    -- A coordinator that is up is tied to the list with what is kept after it. If it is down, a stop leaves the list of its devices.
     pub record CoordinatorMayJoin (v : CoordinatorView D) (seen : List Entry) (low : ℕ) (tried : List Attempt) : Type 0 where
       pub up : v.is_down ≡ false → Joins state honest v seen low tried
       pub down : v.is_down ≡ true → Anywhere state honest v.a v.b seen low tried

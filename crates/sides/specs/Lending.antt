@@ -33,7 +33,7 @@ IsUpThere (Some (shard v)) = ⊥
 IsUpThere (Some (refused e a b)) = ⊥
 IsUpThere None = ⊥
 
--- the refusal of the node's opening, where that was refused
+-- the refusal of the node's opening, if that was refused
 abbrev pub refusal_in : {D : Type 0} → Option (NodeView D) → Option Refusal
 refusal_in (Some node) = refusal_of node
 refusal_in None = None
@@ -75,7 +75,7 @@ module _ {D : Type 0} (state : D → State) (honest : D → Type 0) where
   LandsIn (Some old) flown flying (Some new) = NodeLands state honest old flown flying new
   LandsIn old flown flying new = ⊥
 
-  -- What a stop leaves of the devices that come back are the shard's rows of the list, and where all is up those that are durable then.
+  -- What a stop leaves of the devices that come back are the shard's rows of the list, and if all is up, those that are durable then.
   pub record LandsRows (shards s : ℕ) (flown : View D) (seen : List Entry) (low : ℕ) : Type 0 where
     pub kept : flown.is_down ≡ false → AreRowsOf shards s seen low (shard_state flown.durable)
     pub anywhere : RowsAnywhere state honest shards s flown.a flown.b seen low

@@ -88,7 +88,7 @@ fn announce<A: Adds<Attempt>>(
     words.advance::<A>(log, place);
 }
 
-/// The decision of this intent's write that the reply tells as staged, where it tells one, is one more that was ever staged.
+/// The decision of this intent's write that the reply tells as staged, if it tells one, is one more that was ever staged.
 pub(crate) fn note_decision(
     words: &Published<Attempt>,
     log: &mut LogPass<Attempt>,

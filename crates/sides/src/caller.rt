@@ -92,7 +92,7 @@ impl<B: Room> Tried<B> {
         self.ticket = Some(ticket);
     }
 
-    /// The flight that has to land before all is durable that was staged for it; none where nothing was since it asked last.
+    /// The flight that has to land before all is durable that was staged for it; none if nothing was since it asked last.
     pub fn take_ticket(&mut self) -> Option<u64>
         ensures { self.new ≡ self.old }
     {

@@ -15,7 +15,7 @@ use device::Device;
 
 impl<D: Device, B: Room> ShardSide<D, B> {
     /// Replaces the records of the node by a checkpoint of what it knows, so that its device and its next opening are as small as that. What is staged is
-    /// durable behind it. Where a device fails the node is down until it is opened again, which then finds the old records or the checkpoint.
+    /// durable after it. If a device fails, the node is down until it is opened again, which then finds the old records or the checkpoint.
     pub fn checkpoint(&mut self, told: &mut Told) -> Reply
         ensures answers { SideAnswers D.state D.honest D.moment D.left_since self.old checkpoint_call result self.new }
         ensures pass { self.new.pass ≡ self.old.pass }
@@ -28,7 +28,7 @@ impl<D: Device, B: Room> ShardSide<D, B> {
 
 impl<D: Device, B: Room> CoordinatorSide<D, B> {
     /// The same of the coordinator: the decisions at or below the horizon are in its records no more, and the list stays whole. What was staged joins it, as
-    /// behind a flush. Where a device fails the list stays as it is, until the node is opened again.
+    /// after a flush. If a device fails, the list stays as it is until the node is opened again.
     pub fn checkpoint(&mut self, lists: &Lists<B>, pass: &mut Pass<B>, told: &mut Told) -> Reply
         ensures answers { CoordinatorSideAnswers D.state D.honest D.moment D.left_since self.old log_checkpoint_call result self.new }
         ensures list { HasLaterList self.old self.new }

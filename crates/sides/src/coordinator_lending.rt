@@ -87,7 +87,7 @@ impl<D: Device, B: Room> CoordinatorSide<D, B> {
 
 impl<D: Device, B: Room> CoordinatorSide<Away<D>, B> {
     /// Its devices come back from a flight, and the room for the next one. What the flight made durable joins the list now, and the horizon rises to what is
-    /// durable of it. What was staged since they were lent is staged still. Where the flight's flush failed the list stays as it is, and the coordinator is
+    /// durable of it. What was staged since they were lent is staged still. If the flight's flush failed, the list stays as it is, and the coordinator is
     /// down, and has to be opened again.
     pub fn land(
         self,

@@ -66,7 +66,7 @@ impl<D: Device, B: Room> CoordinatorSide<D, B> {
         let _me = self.me.node();
     }
 
-    /// How many bytes the current bank of its node has; 0 where its opening was refused.
+    /// How many bytes the current bank of its node has; 0 if its opening was refused.
     pub fn bank_len(&self) -> u64
         ensures { result ≡ bank_len_in self.now.node }
     {
@@ -76,7 +76,7 @@ impl<D: Device, B: Room> CoordinatorSide<D, B> {
         }
     }
 
-    /// How many bytes a checkpoint of its node has; none where its opening was refused, or there is no memory to tell.
+    /// How many bytes a checkpoint of its node has; none if its opening was refused, or there is no memory to tell.
     pub fn checkpoint_len(&self) -> Option<u64> {
         match &self.node {
             Some(node) => node.checkpoint_len(),

@@ -15,7 +15,7 @@ use published::{Adds, LogPass, Published};
 use std::marker::Brand;
 use tuples::Entry;
 
-// The list is as long as the place, by what is kept behind it.
+// The list is as long as the place, by what is kept after it.
 fn advance<D: Device, A: Adds<Entry>>(
     words: &Published<Entry>,
     log: &mut LogPass<Entry>,
@@ -46,7 +46,7 @@ fn advance_to<D: Device>(
     advance::<D, Brand>(words, log, node, place);
 }
 
-// The list is no shorter than the place. Where that counts what is kept behind it, it is longer by just that.
+// The list is no shorter than the place. If the place counts what is kept after the list, the list is longer by just that.
 fn reach<D: Device>(
     words: &Published<Entry>,
     log: &mut LogPass<Entry>,
@@ -63,7 +63,7 @@ fn reach<D: Device>(
     }
 }
 
-// The horizon is no lower than the place, where that is one of the list.
+// The horizon is no lower than the place, if that is one of the list.
 fn raise_to(words: &Published<Entry>, log: &mut LogPass<Entry>, place: u64)
     requires own { log.old.table ≡ words.now }
     ensures same { (log.new.table ≡ log.old.table) × (log.new.seen ≡ log.old.seen) }
@@ -91,7 +91,7 @@ fn join_to<D: Device>(
     raise_to(words, log, heads.horizon());
 }
 
-// The list begins, as long as the place: with the list at which the devices rest, and what is kept behind it.
+// The list begins, as long as the place: with the list at which the devices rest, and what is kept after it.
 fn advance_first<D: Device, B: Room, A: Adds<Entry>>(
     words: &Published<Entry>,
     log: &mut LogPass<Entry>,
@@ -151,7 +151,7 @@ fn heads_of(reply: Reply) -> Option<Heads>
     }
 }
 
-/// How far the coordinator is, where it is up.
+/// How far the coordinator is, if it is up.
 pub(crate) fn ask_heads<D: Device>(node: &mut Option<Node<D>>) -> Option<Heads>
     requires { MayAskThere node.old heads_call }
     ensures same { node.new ≡ node.old }
@@ -163,7 +163,7 @@ pub(crate) fn ask_heads<D: Device>(node: &mut Option<Node<D>>) -> Option<Heads>
     heads_of(reply)
 }
 
-/// Adds to the list what is durable of the coordinator, where that is up. What is only staged a stop may take away.
+/// Adds to the list what is durable of the coordinator, if that is up. What is only staged a stop may take away.
 pub(crate) fn join<D: Device, B: Room>(
     lists: &Lists<B>,
     log: &mut LogPass<Entry>,

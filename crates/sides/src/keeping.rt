@@ -49,7 +49,7 @@ impl<D: Device, B: Room> CoordinatorSide<D, B> {
         ask_coordinator(&mut self.node, call, told)
     }
 
-    /// Makes durable what is staged, which then joins the list. Where a device fails the list stays as it is, until the node is opened again.
+    /// Makes durable what is staged, which then joins the list. If a device fails, the list stays as it is until the node is opened again.
     pub fn flush(&mut self, lists: &Lists<B>, pass: &mut Pass<B>, told: &mut Told) -> Reply
         ensures answers { CoordinatorSideAnswers D.state D.honest D.moment D.left_since self.old flush_call result self.new }
         ensures list { HasLaterList self.old self.new }
@@ -70,7 +70,7 @@ impl<D: Device, B: Room> CoordinatorSide<D, B> {
         lists.writes.meet(&mut self.log, &mut pass.pass);
     }
 
-    /// What is answered to a flush that was made elsewhere: that it went well where the coordinator is up, and else why it is not. It makes no call of a device.
+    /// What is answered to a flush that was made elsewhere: that it went well if the coordinator is up, and else why it is not up. It makes no call of a device.
     pub fn tell_flushed(&mut self, lists: &Lists<B>, pass: &mut Pass<B>, told: &mut Told) -> Reply
         ensures same { self.new ≡ self.old }
         ensures caller { KnowsAll pass.old self.new pass.new }

@@ -88,7 +88,7 @@ impl<D: Device, B: Room> ShardSide<D, B> {
 }
 
 impl<D: Device, B: Room> ShardSide<Away<D>, B> {
-    /// Its devices come back from a flight, and the room for the next one. What was staged since they were lent is staged still. Where the flight's flush
+    /// Its devices come back from a flight, and the room for the next one. What was staged since they were lent is staged still. If the flight's flush
     /// failed the shard is down, and has to be opened again.
     pub fn land(self, flown: Journal<D>, flying: Flying) -> (ShardSide<D, B>, BatchRoom)
         requires may { MayLandIn D.state D.honest self.node flown flying }

@@ -2,7 +2,7 @@
 //!
 //! Keeps: the node is tied to the list of writes that the pass beside it has seen, whatever was called.
 //! Never: takes a lock, or tells of a write that the caller's pass has not seen. It waits only while another one copies the shard's pass.
-//! Callers rely on: what a pass had seen it sees behind each call, what is told of the list is of what it has seen then, and a decision that is told as
+//! Callers rely on: what a pass had seen it sees after each call, what is told of the list is of what it has seen then, and a decision that is told as
 //! kept stands in the list there, above all that the caller had seen when it was made. A node's devices may leave and come back between its calls: it is tied
 //! as it was, and what they made durable joins the list as they come.
 //!

@@ -11,7 +11,7 @@ use device::Device;
 use tuples::WriteId;
 
 impl<D: Device, B: Room> CoordinatorSide<D, B> {
-    /// The writes of the list behind the first place, up to the second.
+    /// The writes of the list after the first place, up to the second.
     pub fn batch(
         &mut self,
         lists: &Lists<B>,

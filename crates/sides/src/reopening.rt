@@ -74,7 +74,7 @@ impl<D: Device, B: Room> ShardSide<D, B> {
         }
     }
 
-    /// The node's memory is thrown away, its devices are revived, and it is opened again. The refusal of its opening, where that was refused.
+    /// The node's memory is thrown away, its devices are revived, and it is opened again. The refusal of its opening, if that was refused.
     pub fn restart(&mut self, alloc: Global) -> Option<Refusal>
         ensures restarted { RestartedIn D.state D.honest D.moment D.left_since (shard_node B.store B.shards self.old.number) self.old.node result self.new.node }
         ensures same { (self.new.number ≡ self.old.number) × (self.new.pass ≡ self.old.pass) }

@@ -53,7 +53,7 @@ fn restart_coordinator<D: Device>(
 
 impl<D: Device, B: Room> CoordinatorSide<D, B> {
     /// Opens the coordinator over two devices, of which a stop leaves the list at which the store rests, and perhaps more. Both are revived first. It is up,
-    /// with what was found behind the list; or its opening is refused.
+    /// with what was found after the list; or its opening is refused.
     pub fn open(
         lists: &Lists<B>,
         alloc: Global,
@@ -91,8 +91,8 @@ impl<D: Device, B: Room> CoordinatorSide<D, B> {
         })
     }
 
-    /// The node's memory is thrown away, its devices are revived, and it is opened again: what was found behind the list joins it. The refusal of its
-    /// opening, where that was refused.
+    /// The node's memory is thrown away, its devices are revived, and it is opened again: what was found after the list joins it. The refusal of its
+    /// opening, if that was refused.
     pub fn restart(&mut self, lists: &Lists<B>, alloc: Global) -> Option<Refusal>
         ensures restarted { LogRestartedIn D.state D.honest D.moment D.left_since (coordinator_node B.store B.shards) self.old.node result self.new.node }
         ensures list { HasLaterList self.old self.new }

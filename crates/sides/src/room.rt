@@ -22,7 +22,7 @@ pub trait Room {
     /// How many shards it has.
     ghost shards: { ℕ };
 
-    /// What is taken to be so of its devices when it is opened: that they rest at one list. All that is said of the list is said where this is so.
+    /// What is taken to be so of its devices when it is opened: that they rest at one list. All that is said of the list is said if this is so.
     ghost rests: { Type 0 };
 
     /// The list at which they rest, or a beginning of it.

@@ -89,7 +89,7 @@ impl<D: Device, B: Room> ShardSide<D, B> {
         self.me.node()
     }
 
-    /// How many bytes the current bank of its node has; 0 where its opening was refused.
+    /// How many bytes the current bank of its node has; 0 if its opening was refused.
     pub fn bank_len(&self) -> u64
         ensures { result ≡ bank_len_in self.now.node }
     {
@@ -99,7 +99,7 @@ impl<D: Device, B: Room> ShardSide<D, B> {
         }
     }
 
-    /// How many bytes a checkpoint of its node has; none where its opening was refused, or there is no memory to tell.
+    /// How many bytes a checkpoint of its node has; none if its opening was refused, or there is no memory to tell.
     pub fn checkpoint_len(&self) -> Option<u64> {
         match &self.node {
             Some(node) => node.checkpoint_len(),
@@ -115,7 +115,7 @@ impl<D: Device, B: Room> ShardSide<D, B> {
         }
     }
 
-    /// What it keeps whatever is called: it is a shard of the room's store, beside a pass of the room's words, and tied to what that knows where its devices rested.
+    /// What it keeps whatever is called: it is a shard of the room's store, beside a pass of the room's words, and tied to what that knows if its devices rested.
     pub fn keeps(&self)
         ensures own { self.now.pass.table ≡ B.log }
         ensures number { self.now.number < B.shards }

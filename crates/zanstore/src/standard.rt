@@ -1,4 +1,4 @@
-// The numbers of standard input, output and error, where the caller left one of these closed.
+// The numbers of standard input, output and error, if the caller left one of these closed.
 use std::os::fd::{AsRawFd, IntoRawFd};
 use std::{fs, io};
 
@@ -6,8 +6,8 @@ use std::{fs, io};
 const LAST: i32 = 2;
 
 /// Takes the numbers of those standard streams that are closed, to the end of the process: else the system gave one of them to a socket or to a file, and what
-/// is written to that stream landed there. What they stand for is the root folder, which can be neither read nor written: so that a stream was closed is
-/// told where it is used, as it would be without this.
+/// is written to that stream landed there. What they stand for is the root folder, which can be neither read nor written: so a use of a
+/// closed stream fails, as it would without this.
 pub(crate) fn hold(rt: &HostRuntime) -> io::Result<()> {
     for _ in 0..=LAST {
         let root = fs::open(rt, "/")?;

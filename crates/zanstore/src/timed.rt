@@ -18,7 +18,7 @@ where
         move |scope| -> u8
             requires { F.IsAlwaysCallable work }
         {
-            // Where there is no thread for it, nobody is told.
+            // If there is no thread for it, nobody is told.
             let _ = scope.spawn(move || progress.tell(rt, dir, what));
             let status = work();
             progress.end();

@@ -18,16 +18,14 @@ returns-in-Next-clause-gives c = record {
 pub returns-in-Next-clause-kept : goal.returns-in-Next-clause-kept
 returns-in-Next-clause-kept c =
     let way = c.requires.kept in
-    let same = goes_on c.args.call c.args.reply c.in-Next.catch_up c.requires.fits (rw c.in-Next.is at c.give.ensures) in (
-      record {
-        first = way.first;
-        is_first = way.is_first;
-        shard = same.0 ∙ way.shard;
-        there = subst (λ (n : ℕ). n < c.args.asked.now.shards) (sym same.0) way.there;
-        to = same.1 ∙ way.to;
-      },
-      refl,
-    )
+    let same = goes_on c.args.call c.args.reply c.in-Next.catch_up c.requires.fits (rw c.in-Next.is at c.give.ensures) in
+    record {
+      first = way.first;
+      is_first = way.is_first;
+      shard = same.0 ∙ way.shard;
+      there = subst (λ (n : ℕ). n < c.args.asked.now.shards) (sym same.0) way.there;
+      to = same.1 ∙ way.to;
+    }
 
 pub returns-in-There-clause-gives : goal.returns-in-There-clause-gives
 returns-in-There-clause-gives c = record {

@@ -18,15 +18,12 @@ pub returns-in-Next-clause-kept : goal.returns-in-Next-clause-kept
 returns-in-Next-clause-kept c =
     let way = c.requires.kept.1 in
     let same = goes_on c.args.call c.args.reply c.in-Next.catch_up c.requires.fits (rw c.in-Next.is at c.give.ensures) in (
-      (
-        c.requires.kept.0,
-        record {
-          shard = same.0 ∙ way.shard;
-          there = subst (λ (n : ℕ). n < c.args.asked.now.shards) (sym same.0) way.there;
-          to = same.1 ∙ way.to;
-        },
-      ),
-      refl,
+      c.requires.kept.0,
+      record {
+        shard = same.0 ∙ way.shard;
+        there = subst (λ (n : ℕ). n < c.args.asked.now.shards) (sym same.0) way.there;
+        to = same.1 ∙ way.to;
+      },
     )
 
 pub returns-in-There-clause-gives : goal.returns-in-There-clause-gives
@@ -39,9 +36,6 @@ returns-in-There-clause-gives c = record {
   gives = c.give.ensures;
   then_gives = rw c.in-There.is refl;
 }
-
-pub returns-in-There-clause-kept : goal.returns-in-There-clause-kept
-returns-in-There-clause-kept c = (c.requires.kept.0, refl)
 
 pub returns-in-Refused-clause-gives : goal.returns-in-Refused-clause-gives
 returns-in-Refused-clause-gives c = record {

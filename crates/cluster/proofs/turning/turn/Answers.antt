@@ -1,5 +1,6 @@
 -- The flow of the slot turns, and is left in the slot from which it was taken.
-use Rattle.std.proofs.Common.{◌≡◌, ℕ, None, sym, subst}
+use Rattle.std.proofs.Common.{◌≡◌, ℕ, None, refl, sym, subst}
+use Rattle.calls.specs.declared.progress.Progress.TheVariants.{Ended, Next}
 use Rattle.cluster.specs.Steps.{Leaves}
 use Rattle.cluster.specs.Worlds.{flow_at}
 use Rattle.cluster.proofs.Slots.{at_some, keeps_none, leaves_over, puts}
@@ -12,24 +13,32 @@ pub leave-requires : goal.leave-requires
 leave-requires g c =
     let mid = c.try_remove.new.self in
     record {
-      of = c.turn_flow.ensures.of;
+      of = c.in-Next.ensures.of;
       room = c.in_ok-flow.ensures.room;
       free = subst (λ (s : ℕ). flow_at mid.slots s ≡ None) (sym c.in_ok-flow.ensures.key_is_next) c.try_remove.ensures.updates.changed;
       flows = keeps_none c.args.shards c.args.flows.now.slots mid.slots c.args.slot (puts c.args.flows.now mid c.args.slot None c.try_remove.ensures.updates) c.requires;
     }
 
-pub returns-clause-turns : goal.returns-clause-turns
-returns-clause-turns g c =
+pub returns-in-Next-clause-turns : goal.returns-in-Next-clause-turns
+returns-in-Next-clause-turns g c =
     let old = c.args.flows.now in
     let mid = c.try_remove.new.self in
-    let later = c.turn_flow.new.flow in
+    let flow = c.in-Next.flow in
     let new = c.leave.new.flows.slots in
-    let left = subst (λ (s : ℕ). Leaves mid.slots s later c.leave.result new) c.in_ok-flow.ensures.key_is_next c.leave.ensures.leaves in
-    at_some (flow_at old.slots c.args.slot) c.in_ok-flow.flow _ _ (sym c.in_ok-flow.ensures.value) (record {
-      later = later;
-      turns = c.turn_flow.ensures.turns;
-      leaves = leaves_over old.slots mid.slots new c.args.slot None later c.leave.result (puts old mid c.args.slot None c.try_remove.ensures.updates) left;
-    })
+    let left = subst (λ (s : ℕ). Leaves mid.slots s flow c.leave.result new) c.in_ok-flow.ensures.key_is_next c.leave.ensures.leaves in
+    let leaves = leaves_over old.slots mid.slots new c.args.slot None flow c.leave.result (puts old mid c.args.slot None c.try_remove.ensures.updates) left in
+    at_some (flow_at old.slots c.args.slot) c.in_ok-flow.flow _ _ (sym c.in_ok-flow.ensures.value)
+    (record { after = Next flow; turns = c.in-Next.ensures.turns; leaves = leaves })
+
+pub returns-in-Ended-clause-turns : goal.returns-in-Ended-clause-turns
+returns-in-Ended-clause-turns g c =
+    let old = c.args.flows.now in
+    let mid = c.try_remove.new.self in
+    at_some (flow_at old.slots c.args.slot) c.in_ok-flow.flow _ _ (sym c.in_ok-flow.ensures.value)
+    (record { after = Ended c.in-Ended.told; turns = c.in-Ended.ensures.turns; leaves = (puts old mid c.args.slot None c.try_remove.ensures.updates, refl) })
+
+pub returns-in-Ended-clause-kept : goal.returns-in-Ended-clause-kept
+returns-in-Ended-clause-kept g c = keeps_none c.args.shards c.args.flows.now.slots c.try_remove.new.self.slots c.args.slot (puts c.args.flows.now c.try_remove.new.self c.args.slot None c.try_remove.ensures.updates) c.requires
 
 pub returns-in_err-flow-clause-kept : goal.returns-in_err-flow-clause-kept
 returns-in_err-flow-clause-kept g c = keeps_none c.args.shards c.args.flows.now.slots c.try_remove.new.self.slots c.args.slot (puts c.args.flows.now c.try_remove.new.self c.args.slot None c.try_remove.ensures.updates) c.requires

@@ -1,4 +1,5 @@
 use Rattle.std.proofs.Common.{ap, arith}
+use Rattle.std.proofs.lemmas.Result.{err_from_is_err_and}
 use Rattle.std.specs.Global.{Vec}
 use Rattle.journal.specs.Beginnings.{BegunView}
 use Rattle.reshard.proofs.Written.{head_back, head_more}
@@ -18,6 +19,7 @@ loop-alloc-preserved g c =
         honest_so_far = λ all. next.honest (before.honest_so_far all).0 (before.honest_so_far all).1;
       };
       head = head_more g.D.Device.state g.D.Device.honest g.D.Device.moment g.D.Device.left_since c.args.devices.now.items c.loop-alloc.devices.items c.begin_next.new.devices.items c.loop-alloc.begun.items c.begin_next.new.begun.items c.loop-alloc.invariant.head next.node;
+      blank = λ all. next.blank (c.loop-alloc.invariant.blank all);
     }
 
 pub returns-in_err-begin_next-clause-head : goal.returns-in_err-begin_next-clause-head
@@ -25,3 +27,8 @@ returns-in_err-begin_next-clause-head g c =
     let back = c.in_err-begin_next.ensures.back in
     head_back g.D.Device.state g.D.Device.honest g.D.Device.moment g.D.Device.left_since c.args.devices.now.items c.loop-alloc.devices.items c.begin_next.new.devices.items c.loop-alloc.begun.items c.begin_next.new.begun.items c.loop-alloc.invariant.head back.0
     (ap (λ (v : Vec (BegunView _)). v.items) back.1)
+
+pub returns-in_err-begin_next-clause-damaged : goal.returns-in_err-begin_next-clause-damaged
+returns-in_err-begin_next-clause-damaged g c = λ is all.
+    let p = err_from_is_err_and c.from_residual.result c.from_residual.ensures.1 in
+    c.in_err-begin_next.ensures.damaged (cc) (c.loop-alloc.invariant.blank all)

@@ -13,7 +13,7 @@ returns-in-Ok-clause-not_up g c = λ e down. absurd (none_is_down g.D.Device.sta
 
 pub returns-in-Ok-clause-err : goal.returns-in-Ok-clause-err
 returns-in-Ok-clause-err g c =
-    IfErr-weaker c.carry.result (λ e. IsNotKnown g.D.Device.state g.D.Device.honest c.close.new.old e.0 ⊎ IsNotWritten c.close.new.old.nodes e.0) _
+    IfErr-weaker c.carry.result (λ e. IsNotKnown g.D.Device.state g.D.Device.honest c.close.new.old e.0 ⊎ IsNotWritten g.D.Device.state g.D.Device.honest c.args.devices.items c.close.new.old.nodes e.0) _
     (λ e why. inr (inr (cared_cares g.D.Device.state g.D.Device.honest g.D.Device.moment g.D.Device.left_since c.args.old.now c.close.new.old c.in-Ok.ensures.cared.1, why)))
     c.carry.ensures.err
 

@@ -1,12 +1,12 @@
 use Rattle.std.proofs.Common.{◌≡◌, ◌⊎◌, ◌+◌, ◌++◌, ◌∙◌, All, inr, length, take, drop, sym, subst, arith}
-use Rattle.std.proofs.lemmas.Result.{IfErr-weaker, on_ok_weaker}
+use Rattle.std.proofs.lemmas.Result.{IfErr-weaker, err_from_is_err_and, on_ok_weaker}
 use Rattle.cluster.proofs.Places.{whole}
 use Rattle.merging.specs.Merging.{merged}
 use Rattle.refusal.specs.declared.refusal.Refusal.TheVariants.{Down, NoMemory}
 use Rattle.reshard.specs.Made.{AreHonest, HasLog, HaveShards}
 use Rattle.reshard.specs.Refusing.{IsNotWritten, LacksLog}
 use Rattle.reshard.specs.Written.{EndsLast, HasTried}
-use Rattle.reshard.proofs.Written.{ends_last_weaker, first_begun, head_tried, on_ok_always, tried_weaker, written_not}
+use Rattle.reshard.proofs.Written.{begun_not, ends_last_weaker, first_begun, head_tried, on_ok_always, tried_weaker, written_not}
 use Rattle.reshard.proofs.resharding.write.Goals as goal
 
 pub returns-in_err-begin_all-clause-so_far : goal.returns-in_err-begin_all-clause-so_far
@@ -97,7 +97,15 @@ returns-clause-so_far g c =
           (subst (HasTried state honest moment since old shards reach rows (AreHonest honest c.deref_mut.result.now) f.0) (sym same) (c.fill.ensures.tried f.0 f.1 (c.deref_mut.ensures.value ∙ f.2))),
     )
 
+pub returns-in_err-begin_all-clause-err : goal.returns-in_err-begin_all-clause-err
+returns-in_err-begin_all-clause-err g c =
+    let p = err_from_is_err_and c.from_residual.result c.from_residual.ensures.1 in
+    rw (p.1, p.2)
+    (begun_not g.D.Device.state g.D.Device.honest c.args.devices.now.items c.args.old.now.nodes c.begin_all.result _ c.in_err-begin_all.was c.in_err-begin_all.ensures.err
+    (λ bad. c.in_err-begin_all.ensures.damaged (sym c.in_err-begin_all.was ∙ bad)))
+
 pub returns-clause-err : goal.returns-clause-err
 returns-clause-err g c =
     let nodes = c.args.old.now.nodes in
-    IfErr-weaker c.fill.result (λ e. (e ≡ Down) ⊎ ((e ≡ NoMemory) ⊎ LacksLog nodes e)) (IsNotWritten nodes) (λ e why. written_not nodes e why) c.fill.ensures.err
+    let given = c.args.devices.now.items in
+    IfErr-weaker c.fill.result (λ e. (e ≡ Down) ⊎ ((e ≡ NoMemory) ⊎ LacksLog nodes e)) (IsNotWritten g.D.Device.state g.D.Device.honest given nodes) (λ e why. written_not g.D.Device.state g.D.Device.honest given nodes e why) c.fill.ensures.err

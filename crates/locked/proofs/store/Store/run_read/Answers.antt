@@ -1,23 +1,41 @@
-use Rattle.std.proofs.Common.{◌∙◌}
-use Rattle.locked.proofs.HastenedReads.{stays}
-use Rattle.locked.proofs.Passes.{later_on}
-use Rattle.locked.proofs.ReadTurns.{read_goes_on, read_has_reason}
+use Rattle.std.proofs.Common.{subst}
+use Rattle.locked.proofs.Passes.{later_on, later_self}
+use Rattle.locked.proofs.ReadTurns.{ReadGoesOn, read_goes_on, read_waits}
 use Rattle.locked.proofs.store.Store.run_read.Goals as goal
+
+pub loop-init : goal.loop-init
+loop-init g c = record {
+  runs = (tt, tt);
+  later = later_self c.args.caller.now.pass;
+  on = read_waits g.B.Room.rests g.B.Room.shards c.args.caller.now.pass c.args.told.now c.args.flow c.requires.of c.requires.held;
+}
 
 pub loop-preserved : goal.loop-preserved
 loop-preserved g c =
     let was = c.loop.invariant in
-    let now = stays g.B.Room.rests g.B.Room.shards c.loop.caller.pass c.loop.told c.loop.flow c.hasten.new.flow c.hasten.ensures.asked c.hasten.ensures.hastens was.rests was.held was.reason in
-    let of = now.of ∙ was.of in
-    let turns = c.turn-is_behind.ensures.turns in
-    let on = read_goes_on g.B.Room.rests g.B.Room.shards c.loop.caller.pass c.turn-is_behind.new.caller.pass c.loop.told c.turn-is_behind.new.told c.hasten.new.flow c.turn-is_behind.new.flow of now.held turns in
+    let turns = c.spend-after.ensures.turns in
     record {
       runs = (tt, tt);
-      of = c.turn-is_behind.ensures.of;
-      fresh = on.fresh ∙ now.fresh ∙ was.fresh;
-      sets = on.sets ∙ now.sets ∙ was.sets;
-      rests = on.rests;
-      later = later_on c.args.caller.now.pass c.loop.caller.pass c.turn-is_behind.new.caller.pass was.later turns.serves.later;
-      held = on.held;
-      reason = read_has_reason g.B.Room.rests g.B.Room.shards c.loop.caller.pass c.turn-is_behind.new.caller.pass c.loop.told c.turn-is_behind.new.told c.hasten.new.flow c.turn-is_behind.new.flow of turns;
+      later = later_on c.args.caller.now.pass c.loop.caller.pass c.spend-after.new.caller.pass was.later turns.serves.later;
+      on = subst (ReadGoesOn g.B.Room.rests g.B.Room.shards c.spend-after.new.caller.pass c.spend-after.new.told c.args.flow.fresh c.args.flow.sets) c.in-Next.is
+          (read_goes_on g.B.Room.rests g.B.Room.shards c.loop.caller.pass c.spend-after.new.caller.pass c.loop.told c.spend-after.new.told c.args.flow.fresh c.args.flow.sets c.loop.flow c.hasten-hastened.result c.spend-after.result.0 was.on c.hasten-hastened.ensures.asked
+          c.hasten-hastened.ensures.hastens turns);
     }
+
+pub returns-in-Ended-clause-held : goal.returns-in-Ended-clause-held
+returns-in-Ended-clause-held g c =
+    let on = subst (ReadGoesOn g.B.Room.rests g.B.Room.shards c.spend-after.new.caller.pass c.spend-after.new.told c.args.flow.fresh c.args.flow.sets) c.in-Ended.is
+    (read_goes_on g.B.Room.rests g.B.Room.shards c.loop.caller.pass c.spend-after.new.caller.pass c.loop.told c.spend-after.new.told c.args.flow.fresh c.args.flow.sets c.loop.flow c.hasten-hastened.result c.spend-after.result.0 c.loop.invariant.on
+    c.hasten-hastened.ensures.asked c.hasten-hastened.ensures.hastens c.spend-after.ensures.turns) in on.held
+
+pub returns-in-Ended-clause-reason : goal.returns-in-Ended-clause-reason
+returns-in-Ended-clause-reason g c =
+    let on = subst (ReadGoesOn g.B.Room.rests g.B.Room.shards c.spend-after.new.caller.pass c.spend-after.new.told c.args.flow.fresh c.args.flow.sets) c.in-Ended.is
+    (read_goes_on g.B.Room.rests g.B.Room.shards c.loop.caller.pass c.spend-after.new.caller.pass c.loop.told c.spend-after.new.told c.args.flow.fresh c.args.flow.sets c.loop.flow c.hasten-hastened.result c.spend-after.result.0 c.loop.invariant.on
+    c.hasten-hastened.ensures.asked c.hasten-hastened.ensures.hastens c.spend-after.ensures.turns) in on.reason
+
+pub returns-in-Ended-clause-sets : goal.returns-in-Ended-clause-sets
+returns-in-Ended-clause-sets g c =
+    let on = subst (ReadGoesOn g.B.Room.rests g.B.Room.shards c.spend-after.new.caller.pass c.spend-after.new.told c.args.flow.fresh c.args.flow.sets) c.in-Ended.is
+    (read_goes_on g.B.Room.rests g.B.Room.shards c.loop.caller.pass c.spend-after.new.caller.pass c.loop.told c.spend-after.new.told c.args.flow.fresh c.args.flow.sets c.loop.flow c.hasten-hastened.result c.spend-after.result.0 c.loop.invariant.on
+    c.hasten-hastened.ensures.asked c.hasten-hastened.ensures.hastens c.spend-after.ensures.turns) in on.asked

@@ -1,15 +1,12 @@
-use Rattle.std.proofs.Common.{◌≡◌, length, None}
-use Rattle.locked.proofs.Words.{IsLater, IsWatchOf, WatchHasReason}
+use Rattle.std.proofs.Common.{length}
+use Rattle.calls.specs.declared.progress.Progress.TheVariants.{Next}
+use Rattle.locked.proofs.Words.{IsLater}
+use Rattle.locked.proofs.WatchTurns.{WatchGoesOn}
 use Rattle.locked.proofs.store.Store.run_watch.Given as goal
 
 abbrev pub invariant-loop : goal.invariant-loop
 invariant-loop g l = record {
   runs : (goal.iterator-loop g).can_next l.iterator' × (goal.iterator-loop g).is_finite l.iterator';
-  cursor : l.flow.cursor ≡ l.initial.flow.cursor;
-  limit : l.flow.limit ≡ l.initial.flow.limit;
-  names : l.flow.namespaces ≡ l.initial.flow.namespaces;
-  rests : l.flow.seen.awaited ≡ None;
   later : IsLater l.initial.caller.pass l.caller.pass;
-  held : g.B.Room.rests → IsWatchOf l.flow.cursor l.flow.limit l.flow.namespaces (length l.initial.caller.pass.seen) l.caller.pass.seen l.flow.seen;
-  reason : g.B.Room.rests → WatchHasReason l.told l.flow.cursor l.caller.pass.seen l.caller.pass.horizon l.flow.seen;
+  on : WatchGoesOn g.B.Room.rests (length l.initial.caller.pass.seen) l.caller.pass l.told l.initial.flow.cursor l.initial.flow.limit l.initial.flow.namespaces (Next l.flow);
 }

@@ -6,12 +6,11 @@ use Rattle.locked.proofs.store.Store.try_check.Goals as goal
 
 pub returns-in-Ok-clause-answer : goal.returns-in-Ok-clause-answer
 returns-in-Ok-clause-answer g c rests =
-    let run = c.run_check-flow.ensures in
-    check_ends g.B.Room.rests g.B.Room.shards c.begin_check.new.caller.pass.seen c.run_check-flow.new.caller.pass.seen c.args.freshness (length c.args.caller.now.pass.seen) c.args.userset.now c.args.user c.in-Ok.flow c.run_check-flow.result.seen
-    (ending_of c.ended.result.0) c.in-Ok.ensures.runs (run.held rests) c.ended.ensures.end
+    check_ends g.B.Room.rests g.B.Room.shards c.begin_check.new.caller.pass.seen c.run_check.new.caller.pass.seen c.args.freshness (length c.args.caller.now.pass.seen) c.args.userset.now c.args.user c.in-Ok.flow
+    (ending_of c.run_check.result.end) c.in-Ok.ensures.runs (c.run_check.ensures.held rests)
 
 pub returns-in-Ok-clause-refused : goal.returns-in-Ok-clause-refused
 returns-in-Ok-clause-refused g c rests =
-    let run = c.run_check-flow.ensures in
-    check_refuses g.B.Room.rests g.B.Room.shards c.begin_check.new.caller.pass.seen c.run_check-flow.new.caller.pass.seen c.args.freshness (length c.args.caller.now.pass.seen) c.run_check-flow.new.caller.pass.horizon c.run_check-flow.new.told c.args.userset.now c.args.user
-    c.in-Ok.flow c.run_check-flow.result.seen (ending_of c.ended.result.0) c.in-Ok.ensures.runs (prefix_length c.begin_check.new.caller.pass.seen c.run_check-flow.new.caller.pass.seen run.caller.seen) (run.reason rests) c.ended.ensures.end
+    let run = c.run_check.ensures in
+    check_refuses g.B.Room.rests g.B.Room.shards c.begin_check.new.caller.pass.seen c.run_check.new.caller.pass.seen c.args.freshness (length c.args.caller.now.pass.seen) c.run_check.new.caller.pass.horizon c.run_check.new.told c.args.userset.now c.args.user
+    c.in-Ok.flow (ending_of c.run_check.result.end) c.in-Ok.ensures.runs (prefix_length c.begin_check.new.caller.pass.seen c.run_check.new.caller.pass.seen run.caller.seen) (run.reason rests)
