@@ -1,43 +1,24 @@
 // The measure of crates/bench/src/appends.rt in plain Rust: the same four calls of the same file.
 mod log;
+#[path = "serving/stub_log.rs"]
+mod stub_log;
 
 use log::{run, tell};
-use std::fs::{self, File, OpenOptions};
-use std::io;
-use std::os::unix::fs::FileExt;
+use std::path::Path;
 use std::time::Instant;
+use std::{fs, io};
+use stub_log::Log;
 
-const NAME: &str = "bench.log";
-
-const CLOSED: u8 = 0;
-
-const OPEN: u8 = 0xa5;
-
-// Writes the length, the body and a closed gate behind the closed gate, and then opens that.
-fn append(file: &File, end: u64, buffer: &mut [u8]) -> io::Result<u64> {
-    let last = buffer.len() - 1;
-    let body = (last - 4) as u32;
-    buffer[..4].copy_from_slice(&body.to_be_bytes());
-    buffer[last] = CLOSED;
-    file.write_all_at(buffer, end + 1)?;
-    file.sync_data()?;
-    file.write_all_at(&[OPEN], end)?;
-    file.sync_data()?;
-    Ok(end + buffer.len() as u64)
-}
+const NAME: &str = "./bench.log";
 
 fn measure(count: u64) -> io::Result<()> {
     let _ = fs::remove_file(NAME);
-    let file = OpenOptions::new().read(true).write(true).create_new(true).open(NAME)?;
-    file.sync_all()?;
-    File::open(".")?.sync_all()?;
-    file.write_all_at(&[CLOSED], 0)?;
-    file.sync_data()?;
-    let mut buffer = [7; 105];
-    let mut end = 0;
+    let (mut file, _) = Log::open(Path::new(NAME))?;
     let start = Instant::now();
     for _ in 0..count {
-        end = append(&file, end, &mut buffer)?;
+        // With both lengths and the gate behind it a body of 96 bytes takes 105.
+        let ticket = file.stage(&[7; 96]);
+        file.flush_for(ticket);
     }
     let took = start.elapsed();
     let size = fs::metadata(NAME)?.len();

@@ -54,10 +54,11 @@ def rate(told):
     return told.amount * 10**9 / told.nanoseconds
 
 
-def print_row(cells):
-    print(f"| {' | '.join(map(str, cells))} |", flush=True)
-
-
-def print_head(*cells):
-    print_row(cells)
-    print("|---" * len(cells) + "|", flush=True)
+def print_table(header, rows):
+    """A table in Markdown, if it has any row, each printed as it comes; and behind it an empty line."""
+    text = lambda cells: f"| {' | '.join(map(str, cells))} |"
+    above = f"{text(header)}\n{'|---' * len(header)}|\n"
+    for row in rows:
+        print(above + text(row), flush=True)
+        above = ""
+    print(end="" if above else "\n")

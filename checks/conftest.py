@@ -18,7 +18,7 @@ from _pytest.runner import runtestprotocol
 
 import programs
 
-pytest.register_assert_rewrite("folders", "resharding.carrying")
+pytest.register_assert_rewrite("folders", "carrying")
 PROCESSORS = len(os.sched_getaffinity(0))
 # How many of a group run side by side, which a module names. A test `alone` has to get on beside nothing else, those of servers beside one another alone, and mostly wait.
 GROUPS = {"alone": 1, "beside": PROCESSORS, "servers": 4 * PROCESSORS}
@@ -58,10 +58,6 @@ def pytest_report_teststatus(report):
     if report.when == "call" and report.outcome != "skipped":
         return report.outcome, report.outcome[0], f"{report.outcome} in {report.duration:.1f} s"
     return None
-
-
-def group_of(item):
-    return "alone" if item.get_closest_marker("alone") else getattr(item.module, "GROUP", "beside")
 
 
 class Lane:
@@ -125,7 +121,7 @@ def pytest_runtestloop(session):
         return None
     lanes, terminal, groups = [], session.config.pluginmanager.getplugin("terminalreporter"), {group: [] for group in GROUPS}
     for it in session.items:
-        groups[group_of(it)].append(it)
+        groups["alone" if it.get_closest_marker("alone") else getattr(it.module, "GROUP", "beside")].append(it)
     signal.signal(signal.SIGTERM, signal.default_int_handler)
     try:
         for group, waiting in groups.items():

@@ -1,10 +1,9 @@
 """What programs are asked of stores in folders, and what they answer."""
 import os
-import subprocess
 from pathlib import Path
 
 from judge.lines import token as token_of
-from programs import LIMIT, harness, lines_of, run, zanstore
+from programs import LIMIT, Talking, harness, lines_of, run, zanstore
 
 A, B, C = (f"doc:{name}#viewer@u1" for name in "abc")
 THREE = [f"write +{A}", f"write -{A}", f"write +{A}"]
@@ -29,9 +28,9 @@ def apart(shard):
     return f"the files of shard {shard} and of the coordinator are not of one moment"
 
 
-def script(folder, shards, *lines, limit=LIMIT):
+def script(folder, shards, *lines, limit=LIMIT, store=1):
     """What the script prints, line by line."""
-    status, out, _ = run(harness("files", folder, 1, shards), lines_of(lines), limit)
+    status, out, _ = run(harness("files", folder, store, shards), lines_of(lines), limit)
     assert status == 0, "the script"
     return out.split("\n")[:-1]
 
@@ -69,10 +68,8 @@ def empty(folder, *names):
 
 def while_held(folder, asked):
     """What is asked while another process has the folder open, which has made a write."""
-    with subprocess.Popen(harness("files", folder, 1, 2), stdin=subprocess.PIPE, stdout=subprocess.PIPE, text=True) as child:
-        child.stdin.write(f"write +{A}\n")
-        child.stdin.flush()
-        assert child.stdout.readline() == f"ok {token(1)}\n", "the write"
+    with Talking(harness("files", folder, 1, 2)) as holder:
+        holder.give(f"write +{A}")
+        assert holder.line() == f"ok {token(1)}", "the write"
         asked()
-        child.stdin.close()
-        assert child.wait(LIMIT) == 0, "its end"
+        assert holder.end() == (0, ""), "its end"

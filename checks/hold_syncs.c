@@ -3,17 +3,7 @@
 // were reached or HOLD_SECONDS were over, ten where there is no such word, and from then on nothing is held. HOLD_ONLY names the one call that is held, where
 // it is not both. With HOLD_UNTIL only those of 0.a are held, until a file of that name is there, however long that takes: the line is `held`, as soon as the
 // first is reached.
-#define _GNU_SOURCE
-#include <dlfcn.h>
-#include <fcntl.h>
-#include <limits.h>
-#include <pthread.h>
-#include <stdio.h>
-#include <stdlib.h>
-#include <string.h>
-#include <sys/syscall.h>
-#include <time.h>
-#include <unistd.h>
+#include "preloaded.h"
 
 #define SECONDS 10
 static pthread_mutex_t lock = PTHREAD_MUTEX_INITIALIZER;
@@ -22,15 +12,9 @@ static int is_reached[2], is_over;
 
 // The shard whose file it is, or none.
 static int shard_of(int file) {
-  char link[64], path[PATH_MAX];
-  const char *folder = getenv("HOLD_FOLDER");
-  snprintf(link, sizeof link, "/proc/self/fd/%d", file);
-  ssize_t length = readlink(link, path, sizeof path - 1);
-  if (!folder || length < 0) return -1;
-  path[length] = 0;
-  size_t start = strlen(folder);
-  if (strncmp(path, folder, start)) return -1;
-  return !strcmp(path + start, "/0.a") ? 0 : !strcmp(path + start, "/1.a") ? 1 : -1;
+  char path[PATH_MAX];
+  const char *name = name_in(getenv("HOLD_FOLDER"), file, path);
+  return !name ? -1 : !strcmp(name, "/0.a") ? 0 : !strcmp(name, "/1.a") ? 1 : -1;
 }
 
 static void note(const char *word) {

@@ -9,9 +9,10 @@ SHARED = struct.Struct("=3q")
 
 
 def built_library(name):
-    """Its path. It is built where it is older than its source."""
+    """Its path. It is built if it is older than its sources."""
     source, path = os.path.join(TOP, "checks", f"{name}.c"), os.path.join(TOP, "out", "libraries", f"{name}.so")
-    if not os.path.exists(path) or os.path.getmtime(path) < os.path.getmtime(source):
+    newest = max(map(os.path.getmtime, (source, os.path.join(TOP, "checks", "preloaded.h"))))
+    if not os.path.exists(path) or os.path.getmtime(path) < newest:
         os.makedirs(os.path.dirname(path), exist_ok=True)
         made = f"{path}.{os.getpid()}"
         subprocess.run([os.environ.get("CC", "cc"), "-O1", "-shared", "-fPIC", "-o", made, source, "-ldl", "-pthread"], check=True)

@@ -2,32 +2,16 @@
 // ROOM_FOLDER names the folder, by its real path, which is empty as the program begins. ROOM_FILE names a file with the number of bytes that its files may
 // have together, those without a name too; it is read at each write that makes one longer. A write for which there is no room makes what there is room for,
 // and fails with ENOSPC where that is nothing. A file that is cut off keeps what it has for half a second more.
-#define _GNU_SOURCE
-#include <errno.h>
-#include <fcntl.h>
-#include <limits.h>
-#include <pthread.h>
-#include <stdio.h>
-#include <stdlib.h>
-#include <string.h>
-#include <sys/stat.h>
-#include <sys/syscall.h>
-#include <time.h>
-#include <unistd.h>
+#include "preloaded.h"
 
 static pthread_mutex_t lock = PTHREAD_MUTEX_INITIALIZER;
 static long long used;
 
 // Whether it is a file of the folder.
 static int is_inside(int file) {
-  char link[64], path[PATH_MAX];
-  const char *folder = getenv("ROOM_FOLDER");
-  snprintf(link, sizeof link, "/proc/self/fd/%d", file);
-  ssize_t length = readlink(link, path, sizeof path - 1);
-  if (!folder || length < 0) return 0;
-  path[length] = 0;
-  size_t start = strlen(folder);
-  return !strncmp(path, folder, start) && path[start] == '/';
+  char path[PATH_MAX];
+  const char *name = name_in(getenv("ROOM_FOLDER"), file, path);
+  return name && *name;
 }
 
 static long long allowed(void) {

@@ -5,21 +5,7 @@
 // those of the file of this name.
 // A note: magic, kind, length of the name, number of the note, number of the write or of the note when a sync began, offset, length, the file's length
 // before, how many old bytes; then name, old bytes, new bytes.
-#define _GNU_SOURCE
-#include <dlfcn.h>
-#include <errno.h>
-#include <fcntl.h>
-#include <limits.h>
-#include <stdarg.h>
-#include <stdatomic.h>
-#include <stdint.h>
-#include <stdio.h>
-#include <stdlib.h>
-#include <string.h>
-#include <sys/stat.h>
-#include <sys/syscall.h>
-#include <sys/uio.h>
-#include <unistd.h>
+#include "preloaded.h"
 
 #define MAGIC 0x65746f6e2e6e617aULL
 struct note { uint64_t magic, kind, name, number, of, offset, length, before, old; };
@@ -51,16 +37,10 @@ __attribute__((constructor)) static void find(void) {
 
 // The name of an open file of the folder, "." for the folder itself, or nothing. A file whose name is gone is nothing too: no life behind this one has it.
 static const char *name_of(int file, char *path) {
-  char link[64];
   struct stat now;
   if (notes < 0 || fstat(file, &now) || !now.st_nlink) return NULL;
-  snprintf(link, sizeof link, "/proc/self/fd/%d", file);
-  ssize_t length = readlink(link, path, PATH_MAX - 1);
-  if (length < 0) return NULL;
-  path[length] = 0;
-  if (strncmp(path, folder, folder_length)) return NULL;
-  if (!path[folder_length]) return ".";
-  return path[folder_length] == '/' ? path + folder_length + 1 : NULL;
+  const char *name = name_in(folder, file, path);
+  return name && !*name ? "." : name ? name + 1 : NULL;
 }
 
 static void put(struct note *note, const char *name, const void *old, const void *new) {

@@ -2,11 +2,14 @@
 
 usage: python3 checks/programs.py NAME     prints the file of `zanstore` or of `harness`
 """
+import contextlib
 import os
 import re
 import subprocess
 import sys
 import time
+from importlib.machinery import SourceFileLoader
+from importlib.util import module_from_spec, spec_from_loader
 
 TOP = os.path.dirname(os.path.dirname(os.path.abspath(__file__)))
 # Its time is when the last gate began.
@@ -51,9 +54,62 @@ def run(words, given="", limit=LIMIT, **more):
     return ran.returncode, ran.stdout or given[:0], without_progress(ran.stderr) if text and ran.stderr else ran.stderr
 
 
+def example(name):
+    """The lines of a script of examples/."""
+    with open(os.path.join(TOP, "examples", f"{name}.script"), encoding="utf-8") as script:
+        return [line for line in script.read().splitlines() if not line.startswith(";")]
+
+
+class Talking:
+    """A program that runs, which is given lines and prints lines."""
+
+    def __init__(self, words, **more):
+        pipes = {"stdin": subprocess.PIPE, "stdout": subprocess.PIPE, "stderr": subprocess.DEVNULL}
+        self.child = subprocess.Popen([*map(str, words)], **{**pipes, "text": True, "bufsize": 1, **more})
+
+    def __enter__(self):
+        return self
+
+    def __exit__(self, *_):
+        self.child.kill()
+        self.child.wait()
+        self.child.stdout.close()
+        with contextlib.suppress(BrokenPipeError):
+            self.child.stdin.close()
+
+    def give(self, *lines):
+        self.child.stdin.write(lines_of(lines))
+        self.child.stdin.flush()
+
+    def line(self):
+        """The next line, without its end."""
+        return self.child.stdout.readline().rstrip("\n")
+
+    def end(self):
+        """Its status once nothing more is given, and what it printed behind the last line that was read."""
+        with contextlib.suppress(BrokenPipeError):
+            self.child.stdin.close()
+        rest = self.child.stdout.read()
+        return self.child.wait(), rest
+
+
+def memory(child, kind="VmHWM"):
+    """The KiB that a process has taken at most, or those of another kind."""
+    with open(f"/proc/{child.pid}/status", encoding="utf-8") as file:
+        return next(int(line.split()[1]) for line in file if line.startswith(f"{kind}:"))
+
+
 def lines_of(lines):
     """A text of these lines."""
     return "".join(f"{line}\n" for line in lines)
+
+
+def module_of(path):
+    """A script as a module."""
+    loader = SourceFileLoader(os.path.basename(path), str(path))
+    module = module_from_spec(spec_from_loader(loader.name, loader))
+    loader.exec_module(module)
+    return module
 
 
 def now():

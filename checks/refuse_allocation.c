@@ -1,14 +1,7 @@
 // Refuses one allocation of a program. In the file that the environment names in REFUSE_SHARED three numbers of 8 bytes say it while the program runs: which
 // is to be refused, from 1 on, and none where it is 0, how many there were since, and how many were refused.
 // Loaded before the C library, for the checks `refused_memory`, `refused_session`, `refused_serving` and `refused_dump` alone; no part of the program.
-#define _GNU_SOURCE
-#include <dlfcn.h>
-#include <errno.h>
-#include <fcntl.h>
-#include <stdatomic.h>
-#include <stdlib.h>
-#include <sys/mman.h>
-#include <unistd.h>
+#include "preloaded.h"
 
 struct shared { atomic_long wanted, asked, refused; };
 static struct shared *shared = NULL;

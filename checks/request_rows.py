@@ -28,15 +28,12 @@ def each_of(row):
     return [one for text in found[1].split(b"|") for one in each_of(before + text + behind)]
 
 
-def repeated(found):
-    return b",".join(found[2].replace(b"INDEX", b"%d" % n) for n in range(int(found[1])))
-
-
 def spelled(text):
     text = re.sub(rb"READ\((.*?)\)", rb'{"op":"read","sets":["\1"]}', text)
     text = re.sub(rb"CHECK\((.*?)\)", rb'{"op":"check","tuple":"\1"}', text)
     text = text.replace(b"NAME", NAME64).replace(b"CHANGE", CHANGE).replace(b"OTHER", token(2, 1).encode())
     text = re.sub(rb"PLACE_(\d)", lambda it: token(1, int(it[1])).encode(), text)
+    repeated = lambda it: b",".join(it[2].replace(b"INDEX", b"%d" % n) for n in range(int(it[1])))
     text = re.sub(rb"(\d+)\*\((.*?)\)\*", repeated, text)
     text = re.sub(rb"(\d+)x\((.*?)\)x", lambda it: int(it[1]) * it[2], text)
     for word, byte in BYTES.items():

@@ -3,12 +3,10 @@ skipped."""
 import glob
 import shutil
 import sys
-from importlib.machinery import SourceFileLoader
-from importlib.util import module_from_spec, spec_from_loader
 
 import pytest
 
-from programs import TOP, run
+from programs import TOP, module_of, run
 
 SOURCES = ("appends", "coordinator", "journal", "texts", "threads", "versions", "serving/load", "serving/stub")
 
@@ -25,9 +23,7 @@ def test_source(source, folder):
 def test_package(folder):
     """The one that stands on serde_json, as bench/run builds it."""
     sys.path.insert(0, f"{TOP}/bench")
-    loader = SourceFileLoader("bench_run", f"{TOP}/bench/run")
-    bench = module_from_spec(spec_from_loader("bench_run", loader))
-    loader.exec_module(bench)
+    bench = module_of(f"{TOP}/bench/run")
     if not shutil.which("cargo") or not glob.glob(f"{bench.SOURCES}/serde_json-*"):
         pytest.skip("there is no cargo, or no serde_json of Debian")
     status, _, told = run([bench.build_package(folder, "lines"), "lines-read", 10])

@@ -10,7 +10,7 @@ from pathlib import Path
 
 import programs
 from judge.worlds import must
-from serving.server import HOST, LIMIT, Server, free_port, program, run
+from serving.server import HOST, LIMIT, Server, free_port, program
 from serving.wire import Session, check, delete, read, refusal, token, touch, watch, write
 from serving.wire import told as told_of
 
@@ -302,35 +302,3 @@ def test_bad_lines(folder):
         is_called((1, text_of({"member": True, "zookie": token(1)}), why), found, "bad lines")
         assert len(server.sent) == 1
         assert called(server.port, "check a\ncheck b") == (1, "", "zanstore: call: a request is one line\n")
-
-
-def test_command_lines():
-    """status 2 for a bad command line"""
-    store = "--store takes a number from 0 to 4294967295."
-    for words, says in (
-        *((f"call {words}".split(), "") for words in ("", "--retry 2", "a --retry", "a --retry x", "a --retry 1001", "a --follow=1")),
-        (["call", "a", "--slow", "check", ANN], "'--slow' is not a word of a request; options come before its first word"),
-        (["call", "a", "check", ANN, "--timeout", "3"], "'--timeout' is not a word of a request"),
-        (["call", "a", "--follow", "check", ANN], "--follow stands before a watch, and this is none"),
-        (["call", "a", "--follow", json.dumps(check(ANN))], "--follow stands before a watch, and this is none"),
-        (["call", "a", "--timeout", "0", "check", ANN], "--timeout takes a number from 1 to 4294967295"),
-        (["sevre"], "'serve'"),
-        ([], "serve, call, dump, reshard, sim"),
-        (["help", "sevre"], "sevre"),
-        *((words.split(), store) for words in ("dump --dir d --shards 1 --store -1", "sim --store x", "serve --store=4294967296")),
-    ):
-        status, out, err = run(*words)
-        assert (status, out) == (2, "") and err and says in err, words
-
-
-def test_help():
-    """the commands and their options are told"""
-    for command in ("call", "dump", "reshard", "serve", "sim"):
-        assert run("help", command) == run(command, "--help")
-    status, out, err = run("call", "--help")
-    assert (status, err) == (0, "")
-    for word in ("ADDR", "--retry", "--timeout", "--follow", "write", "read", "check", "watch", "at-least", "exact"):
-        assert word in out
-    told = run("--help")[1]
-    listed = re.findall(r"^  (\w+)  ", told.split("Commands:")[1].split("Options:")[0], re.MULTILINE)
-    assert listed == ["serve", "call", "dump", "reshard", "sim", "help"] and "zanstore COMMAND --help" in told

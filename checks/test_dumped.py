@@ -1,8 +1,5 @@
-"""What `zanstore dump` prints of a store in files, and which faults it tells; those of `zanstore reshard` over the same files are the same.
-
-Each row has a script make a store in a new folder (`harness files`), and holds what the program prints of it, its status and its standard error against lines
-that were worked out by hand.
-"""
+"""What `zanstore dump` prints of stores that scripts make in new folders (`harness files`), and which faults it tells,
+against lines that were worked out by hand; the faults of `zanstore reshard` over the same files are the same."""
 import os
 import re
 import shutil
@@ -14,7 +11,7 @@ import pytest
 
 from folders import THREE, A, B, apart, at, contents, dumped, empty, fault, resharded, script, token, while_held
 from libraries import holding
-from programs import LIMIT, run, zanstore
+from programs import LIMIT, zanstore
 
 GROUP = "servers"
 IN_ORDER = ["0:a#v@u1", "_:a#v@u1", "do:z#z@z", "doc:a#v@u1", "doc:a#v@u10", "doc:a#v@z", "doc:a#v@a:a#a", "doc:a#v@g:b#a", "doc:a#v1@a", "doc:a!#a@a", "doc:a~#z@z"]
@@ -192,10 +189,3 @@ def test_long(folder):
     ran = subprocess.run(words, env=held, capture_output=True, text=True, timeout=LIMIT)
     assert (ran.returncode, ran.stdout) == at(1, A)[:2]
     assert re.fullmatch(rf"zanstore: \S+Z {re.escape(folder)}: being dumped, for [1-9] s so far\n", ran.stderr), ran.stderr
-
-
-def test_usage(folder):
-    """a command line that can't be read, or that asks for help"""
-    for words, status in (("dump", 2), (f"dump --dir {folder} --store 1 --shards 65", 2), (f"dump --dir {folder} --store 1 --shards 2 --at x", 2), ("dump --help", 0)):
-        assert run([zanstore(), *words.split()])[0] == status, words
-    assert not os.listdir(folder)

@@ -1,4 +1,5 @@
 """Runs the rows of flow_rows.rows, and compares what their flows do."""
+import itertools
 import re
 from pathlib import Path
 
@@ -7,6 +8,7 @@ from programs import harness, lines_of, run
 from verdicts import none
 
 ROWS = Path(__file__).with_name("flow_rows.rows")
+CHOICE = re.compile(r"<([^<>|]*)\|([^<>|]*)>")
 NAME = re.compile(r"^([A-Z]+)(?:_N)? is (.+)\n", re.MULTILINE)
 
 
@@ -72,9 +74,14 @@ def in_full(text):
     return text
 
 
+def each_of(row):
+    """A row, or those two for which it stands."""
+    return [CHOICE.sub(rf"\{at}", row) for at in (1, 2)] if CHOICE.search(row) else [row]
+
+
 def rows(text):
     """Of each row its steps, and what its flows do."""
-    for row in re.split(r"\n(?! )", in_full(text)):
+    for row in itertools.chain(*map(each_of, re.split(r"\n(?! )", in_full(text)))):
         steps, ends = [], []
         for line in row.split("\n") if row and not row.startswith("#") else ():
             given, _, end = f" {line.strip()}".partition(" = ")

@@ -1,29 +1,152 @@
-"""Images of nodes with one thing changed, opened.
-
-Random scripts run over files (`harness files`), and what their nodes leave, as it is and with checkpoints, is changed in one place: a byte, a piece that is
-cut off, left out or doubled, a field of a record, a record, a batch, a bank, or the node that the bytes are opened as. `harness images` opens each, and has
-to say of it what a reader of docs/FORMAT.md says that shares no code with the store: that it is damaged, or what the node finds, and which bytes it writes
-as it is opened. Most rules of the format have to be the only one that refuses some image, so that a store without one of them would be noticed. Some images
-whose answers were worked out by hand are given to both; and whole stores with one such change lie in files, and `zanstore dump` has to print what that
-reader makes of them. Stores in the first version of the format tell what they told, and their checkpoints are in the second. `--seed` and `--count` say which changes, and how many.
-"""
+"""Images of nodes with one thing changed, opened: docs/CHECKS.md#changed-images. `--seed` and `--count` say which
+changes, and how many."""
 import os
+import re
+import tempfile
 from collections import Counter
 from concurrent.futures import ThreadPoolExecutor
 from random import Random
 
 import pytest
 
-from imaging import dumps
+import folders
 from imaging.changing import changed
-from imaging.format import Rules
-from imaging.making import fault_of, few_shards, has_no_checkpoint, in_first_version, reads_alike, real_images, with_checkpoints
-from imaging.replaying import answer, is_found_without
+from imaging.format import GREATEST, Begins, Damaged, Rules, batches_of
+from imaging.making import fault_of, few_shards, has_no_checkpoint, images_of, in_first_version, leave, reads_alike
+from imaging.making import real_images, with_checkpoints
+from imaging.replaying import answer, found, is_found_without, named_of
 from imaging.rows import ROWS, given_and_told, text_of
-from imaging.upgrading import upgraded
+from judge.definitions import home, tuple_text
+from judge.lines import token
 from programs import TOP, harness, lines_of, run
 from sweeping.wrong_programs import program_with
 from verdicts import none
+
+DAMAGED, FULL = "16 Damaged", "15 Full"
+
+
+class Refused(Exception):
+    """A dump that prints nothing."""
+
+
+def must(is_so, refusal=DAMAGED):
+    if not is_so:
+        raise Refused(refusal)
+
+
+def opened(image):
+    """What the node has, where its opening is not refused."""
+    try:
+        node, _ = found(Rules(), image)
+    except Damaged:
+        raise Refused(DAMAGED) from None
+    must(node.epoch < GREATEST, FULL)
+    return node
+
+
+def part_of(shard, made):
+    """The changes and the conditions of a write that are a shard's."""
+    changes = [change for change in made.changes if home(change.tuple, shard.shards) == shard.node]
+    return changes, [condition for condition in made.conditions if home(condition[0], shard.shards) == shard.node]
+
+
+def learned(coordinator, shard):
+    """The versions of a shard that has learned all that is kept."""
+    rows, doubt = list(shard.rows), dict(shard.in_doubt)
+    for made in coordinator.log:
+        if made.place > shard.learned and any(home(named, shard.shards) == shard.node for named in named_of(made)):
+            prepared = doubt.pop(made.id, None)
+            must(prepared and part_of(shard, prepared) == part_of(shard, made))
+            rows += [(named, made.place, is_touch) for is_touch, named in prepared.changes]
+    return rows
+
+
+def right_dump(images):
+    """The status, the text and the words on standard error of a dump of these nodes, the coordinator first."""
+    try:
+        coordinator, *shards = [opened(image) for image in images]
+        for shard in shards:
+            must(coordinator.horizon <= shard.learned <= coordinator.end())
+        rows = [row for shard in shards for row in learned(coordinator, shard)]
+    except Refused as refused:
+        return 1, "", f"zanstore: {refused}\n"
+    newest = {}
+    for named, place, is_touch in rows:
+        newest[named] = max(newest.get(named, (0, False)), (place, is_touch))
+    there = [tuple_text(named) for named in sorted(newest) if newest[named][1]]
+    return 0, "".join(f"{line}\n" for line in [f"at {token(images[0].store, coordinator.end())}", *there]), ""
+
+
+def dumped(images):
+    """The same of the program."""
+    with tempfile.TemporaryDirectory(prefix="images-") as folder:
+        leave(folder, images)
+        status, out, err = folders.dumped(folder, images[0].shards, store=images[0].store)
+    # A second line tells which node is meant, or which store the files are of.
+    first, *about = err.splitlines(keepends=True) or [""]
+    if about and not re.fullmatch(r"zanstore: (the files of .*|.* is of store [0-9]+ with [0-9]+ shards)\n", "".join(about)):
+        first = err
+    return status, out, first
+
+
+def with_change(random, store, images):
+    """What was done to a node of the store, and all of them; the node may have made checkpoints before."""
+    at = random.randrange(len(store))
+    node = store[at]
+    if has_no_checkpoint(node) and random.random() < 0.5:
+        node = with_checkpoints(random, node)
+    what, other = changed(random, node, images)
+    return what, [*store[:at], other, *store[at + 1 :]]
+
+
+def judged_dumps(seed, count, stores):
+    """So many changes by a seed: how many dumps ended with each status, and what was answered wrongly."""
+    random, statuses, faults = Random(seed), Counter(), []
+    images = [image for store in stores for image in store]
+    given = [("as it is", store) for store in stores]
+    while len(given) < count:
+        store = random.choice(stores)
+        what, other = with_change(random, store, images)
+        if [image[:3] for image in other] == [image[:3] for image in store]:
+            given.append((what, other))
+    for what, store in given[:count]:
+        wanted, printed = right_dump(store), dumped(store)
+        statuses[wanted[0]] += 1
+        if printed != wanted:
+            files = "\n".join(f"  node {image.node}: {image.a.hex() or '-'} {image.b.hex() or '-'}" for image in store)
+            faults.append(f"seed {seed}, a dump, {what}:\n{files}\n  prints {printed}\n  and has to print {wanted}")
+    return statuses, faults
+
+
+def current(image):
+    """The batches of the bank that is read."""
+    return batches_of(Rules(), image.b if found(Rules(), image)[1] else image.a)[0]
+
+
+def versions(image):
+    return {version for version, _ in current(image)}
+
+
+def upgraded(store):
+    """A store whose batches are of the first version of the format. How many nodes had a batch of version 1 alone, and
+    what is not so of the store: it tells the rows that it told, and has a checkpoint in version 2 of each node then."""
+    old, shards = [*map(in_first_version, store)], range(store[0].shards)
+    rows = [line for image in old[1:] for line in found(Rules(), image)[0].told() if line[0].isdigit()]
+    with tempfile.TemporaryDirectory(prefix="images-") as folder:
+        leave(folder, old)
+        asked = [*(f"rows {shard}" for shard in shards), *(f"checkpoint {node}" for node in ("c", *shards))]
+        told = folders.script(folder, len(shards), *asked, store=old[0].store)
+        new = images_of(folder, old[0].store, len(shards))
+    is_right = told == [*rows, *["done"] * len(old)]
+    faults = [] if is_right else [f"store {old[0].store} tells {told}\n  and has to tell {rows}"]
+    for was, image in zip(old, new):
+        first = current(image)[0][1][0]
+        if not reads_alike(was, image):
+            faults.append(f"node {was.node} does not read as before its checkpoint")
+        if not isinstance(first, Begins) or versions(image) != {2}:
+            faults.append(f"node {was.node} begins with {first}, in the versions {versions(image)}")
+    return sum(versions(image) == {1} for image in old), faults
+
 
 # Scripts whose nodes are changed, and changes and dumps of one process.
 SCRIPTS = 20
@@ -121,7 +244,7 @@ def test_changes(pool, asked):
 
 def test_dumps(pool, asked):
     stores = right_images(asked.seed or 1)[0]
-    parts = in_shares(pool, dumps.judged, asked.seed or 1, asked.count or 400, max(DUMPED, len(stores)), stores)
+    parts = in_shares(pool, judged_dumps, asked.seed or 1, asked.count or 400, max(DUMPED, len(stores)), stores)
     statuses = sum((it[0] for it in parts), Counter())
     print(f"dumps: {sum(statuses.values())} stores, {statuses[0]} printed, {statuses[1]} refused")
     none(fault for it in parts for fault in it[1])

@@ -17,16 +17,14 @@ import re
 import shlex
 import shutil
 import signal
-import socket
 import subprocess
 import tempfile
 import threading
-from importlib.machinery import SourceFileLoader
-from importlib.util import module_from_spec, spec_from_loader
 from pathlib import Path
 
 import programs
-from programs import harness, lines_of, run
+from programs import harness, lines_of, module_of, run
+from serving.server import HOST, free_port
 from verdicts import SAME, all_noticed, none, spoiled_texts
 
 TOP, PROGRAM = Path(programs.TOP), programs.zanstore()
@@ -37,7 +35,6 @@ PICTURE = re.compile(r"!\[([^\]]*)\]\(([^)\s]+\.svg)\)")
 CODE = re.compile(r"`([^`]+)`")
 NUMBER = re.compile(r"2\^(\d+)( - 1)?|\d[\d,]*")
 # The address of the server that the pages show.
-HOST = "127.0.0.1"
 SHOWN = HOST + ":7700"
 
 
@@ -122,8 +119,7 @@ def spelled(command):
 @functools.lru_cache(None)
 def printed_by_server(serving, *asking):
     """The first line of a server, and what each command prints that is given beside it."""
-    with socket.create_server((HOST, 0)) as free:
-        here = f"{HOST}:{free.getsockname()[1]}"
+    here = f"{HOST}:{free_port()}"
     with tempfile.TemporaryDirectory() as folder:
         words = ("bash", "-c", serving.replace(SHOWN, here))
         server = subprocess.Popen(words, stdout=subprocess.PIPE, stderr=subprocess.DEVNULL, text=True, cwd=folder, start_new_session=True)
@@ -191,9 +187,7 @@ def fault_of_link(at, page, text, target):
 def value_of(source, name):
     """The value of a constant, or none where it is not spelled by numbers alone."""
     found = re.search(rf"const {name}: \w+ = ([\d_<()\- ]+);", source)
-    if not found:
-        return None
-    return eval(found[1], {"__builtins__": {}})
+    return eval(found[1], {"__builtins__": {}}) if found else None
 
 
 def number_of(cell):
@@ -239,9 +233,7 @@ def faults_of_rows(folder, plain):
     header = []
     for number, line in plain:
         cells = [cell.strip() for cell in line.strip().strip("|").split(" | ")] if line.startswith("|") else []
-        if not cells:
-            header = []
-        elif not header:
+        if not cells or not header:
             header = cells
         elif set(line) <= set("|- "):
             continue
@@ -299,15 +291,8 @@ def faults_of(path, page):
         yield from faults_of_laws(path.parent, plain)
 
 
-def drawer(path):
-    """A script as a module, whose `faults_of` is its `--check`."""
-    loader = SourceFileLoader(path.name, str(path))
-    module = module_from_spec(spec_from_loader(path.name, loader))
-    loader.exec_module(module)
-    return module
-
-
-DRAWERS = ((drawer(TOP / "docs" / "pictures" / "draw"), "pictures"), (drawer(TOP / "bench" / "chart"), "BENCH.md"))
+# Scripts whose `faults_of` is their `--check`, and what they draw.
+DRAWERS = ((module_of(TOP / "docs/pictures/draw"), "pictures"), (module_of(TOP / "bench/chart"), "BENCH.md"))
 
 
 def showing(docs):
@@ -334,10 +319,6 @@ def faults_of_pictures(docs):
 
 def pages():
     return {path: path.read_text() for path in [*sorted(TOP.glob("*.md")), *sorted((TOP / "docs").glob("*.md"))]}
-
-
-def told(path, number, why):
-    return f"{path.relative_to(TOP)}:{number}: {why}"
 
 
 FENCED = ("console", *FOLLOWS, *FOLLOWS.values())
@@ -399,7 +380,9 @@ def spoiled_pages():
 def test_pages():
     runs = sum(block.kind in (*FOLLOWS, "console") for page in pages().values() for block in blocks_of(page)[0])
     print(f"pages: {len(pages())} pages, {runs} examples")
-    none([told(path, *fault) for path, page in pages().items() for fault in faults_of(path, page)] + [*faults_of_pictures(TOP / "docs")])
+    faults = ((path, *fault) for path, page in pages().items() for fault in faults_of(path, page))
+    told = (f"{path.relative_to(TOP)}:{number}: {why}" for path, number, why in faults)
+    none([*told, *faults_of_pictures(TOP / "docs")])
     assert runs > 0
 
 

@@ -6,10 +6,38 @@ from pathlib import Path
 
 import pytest
 
-from programs import TOP, lines_of, run, zanstore
+from programs import TOP, Talking, lines_of, memory, run, zanstore
 
 LIMIT = 262144
-STATUS_2 = ("", "sim --shards 0", "sim --shards 65", "sim --shards x", "sim --store x", "sim --store 4294967296", "sim 1", "other")
+ASKED = "check doc:readme#viewer@ann"
+# Command lines that can't be read, in several texts, with what is said of them. FOLDER is an empty one, and stays so.
+CARRIED = "reshard --dir FOLDER --to FOLDER --store 1 --shards 2"
+UNREAD = {
+    "": "serve, call, dump, reshard, sim",
+    "help sevre": "sevre",
+    "sevre": "'serve'",
+    "call a --slow " + ASKED: "'--slow' is not a word of a request; options come before its first word",
+    f"call a {ASKED} --timeout 3": "'--timeout' is not a word of a request",
+    **dict.fromkeys(
+        (f"call a --follow {ASKED}", 'call a --follow {"op":"check","tuple":"doc:readme#viewer@ann"}'),
+        "--follow stands before a watch, and this is none",
+    ),
+    "call a --timeout 0 " + ASKED: "--timeout takes a number from 1 to 4294967295",
+    **dict.fromkeys(
+        ("dump --dir d --shards 1 --store -1", "sim --store x", "sim --store 4294967296", "serve --store=4294967296"),
+        "--store takes a number from 0 to 4294967295.",
+    ),
+    **dict.fromkeys(("call", "call --retry 2", *(f"call a --{it}" for it in ("retry", "retry x", "retry 1001"))), ""),
+    **dict.fromkeys(("call a --follow=1", *(f"sim --shards {it}" for it in ("0", "65", "x")), "sim 1", "other"), ""),
+    **dict.fromkeys(("dump", *(f"dump --dir FOLDER --store 1 --shards {it}" for it in ("65", "2 --at x"))), ""),
+    **dict.fromkeys(("reshard", CARRIED, f"{CARRIED} --new-shards 65", f"{CARRIED} --new-shards 0"), ""),
+}
+# What the help of a command names.
+HELP = {
+    "call": "ADDR --retry --timeout --follow write read check watch at-least exact",
+    "serve": "--dir --store --shards --listen --workers --window --connections --idle --existing --end-when-down",
+    **dict.fromkeys(("dump", "reshard", "sim"), ""),
+}
 AT_0, OK_1, AT_1 = "at AQAAAAAAAAAAAQAAAAAAAAAA", "ok AQAAAAAAAAAAAQAAAAAAAAAB", "at AQAAAAAAAAAAAQAAAAAAAAAB"
 READ, WRITE, MEMBER = "read latest doc:a\n", "write +doc:a#viewer@u1\n", "group:r#member@group:"
 BAD, LARGE, FULL, DOWN, B = "refused 1 BadRequest", "refused 3 TooLarge", "refused 15 Full", "refused 13 Down", "1 doc:b#viewer@u1"
@@ -39,9 +67,24 @@ PRINTED = [
 ]
 
 
-@pytest.mark.parametrize("words", STATUS_2)
-def test_status_2(words):
-    assert run([zanstore(), *words.split()])[:2] == (2, "")
+@pytest.mark.parametrize("words", UNREAD)
+def test_status_2(words, folder):
+    status, out, err = run([zanstore(), *words.replace("FOLDER", folder).split()])
+    assert (status, out) == (2, "") and err and UNREAD[words] in err
+    assert not os.listdir(folder)
+
+
+@pytest.mark.parametrize("command", HELP)
+def test_help(command):
+    status, out, err = told = run([zanstore(), command, "--help"])
+    assert (status, err) == (0, "") and told == run([zanstore(), "help", command])
+    assert all(word in out for word in HELP[command].split())
+
+
+def test_commands():
+    told = run([zanstore(), "--help"])[1]
+    listed = re.findall(r"^  (\w+)  ", told.split("Commands:")[1].split("Options:")[0], re.MULTILINE)
+    assert listed == ["serve", "call", "dump", "reshard", "sim", "help"] and "zanstore COMMAND --help" in told
 
 
 @pytest.mark.parametrize("word", ["--version", "-V"])
@@ -78,24 +121,17 @@ def test_status_1_where_the_input_cannot_be_read(folder):
         assert (child.communicate(timeout=60)[0], child.returncode) == (b"", 1)
 
 
-def begun():
-    return subprocess.Popen([zanstore(), "sim"], stdin=subprocess.PIPE, stdout=subprocess.PIPE, stderr=subprocess.DEVNULL, text=True, bufsize=1)
-
-
 def test_each_answer_is_out_before_the_next_line_is_read():
-    with begun() as child:
+    with Talking([zanstore(), "sim"]) as sim:
         for _ in range(2):
-            child.stdin.write(READ)
-            assert child.stdout.readline() == AT_0 + "\n"
-        child.stdin.close()
-        assert child.wait(60) == 0
+            sim.give(READ[:-1])
+            assert sim.line() == AT_0
+        assert sim.end() == (0, "")
 
 
 def test_memory_does_not_grow_with_the_length_of_a_script():
     """Forty million bytes of comments, and what the process has taken at most."""
-    with begun() as child:
-        for _ in range(400):
-            child.stdin.write(";" * 100000 + "\n")
-        child.stdin.write(READ)
-        assert child.stdout.readline() == AT_0 + "\n"
-        assert int(re.search(r"VmHWM:\s*(\d+) kB", Path(f"/proc/{child.pid}/status").read_text())[1]) <= 32768
+    with Talking([zanstore(), "sim"]) as sim:
+        sim.give(*[";" * 100000] * 400, READ[:-1])
+        assert sim.line() == AT_0
+        assert memory(sim.child) <= 32768

@@ -1,9 +1,4 @@
-"""Dumps a folder once for each of the program's allocations, which is refused.
-
-A dump that is refused memory prints nothing and ends with status 1 and `zanstore: 14 NoMemory`; with status 2, and the files as they were, where the command
-line could not be read for want of it; with `zanstore: output` where it stood in the way of the text, of which a beginning is there. Where it could do without
-it all is printed. In each file stands just what stood there, and a later dump prints all.
-"""
+"""Dumps a folder once for each of the program's allocations, which is refused: docs/CHECKS.md#refused-memory."""
 import os
 import shutil
 import tempfile

@@ -1,21 +1,21 @@
 """Runs each script once for each of the program's allocations, which is refused, and judges each answer.
 
-Each line prints what it prints with memory, or that memory was refused; then the same line is given again, with memory, and has to print what it would have
-printed. A node whose opening was refused is opened again before that, and a flow that has ended by it gets its lines once more. Passed over are runs in which
-the disk's own growth was refused, which counts as a failure of the device.
+A node whose opening was refused is opened again before a line is given again, and a flow that has ended by it gets its
+lines once more. Passed over are runs in which the disk's own growth was refused, which counts as a failure of the
+device.
 """
-import contextlib
 import re
 import signal
-import subprocess
 from collections import Counter
+from pathlib import Path
 
 import pytest
 
 from judge.lines import token
+from judge.reading import Reading
 from judge.worlds import Wrong
 from libraries import Refusing
-from programs import zanstore
+from programs import TOP, Talking, example, zanstore
 from verdicts import all_noticed
 
 # Far more seconds than a script takes where much else runs.
@@ -74,31 +74,12 @@ CHECKPOINTS = [
     {"write -doc:b#viewer@u2 if ?doc:b#viewer@u2": [f"ok {Z[6]}"]},
     {f"watch {Z[3]} 256 doc": ["4 +doc:a#viewer@u3", "4 +doc:b#viewer@u3", "6 -doc:b#viewer@u2", f"heartbeat {Z[6]}"]},
 ]
-# A decision with a restart of the coordinator behind it, usersets in a ring, and what is told and forgotten below a horizon.
+# A decision with a restart of the coordinator behind it.
 UNSURE = [
     {"start w write +doc:a#viewer@u1 +doc:b#viewer@u1": ["started w"], "until w decide": ["next decide"], "run w": [f"ok {Z[1]}"]},
     {"restart c": ["up"]},
     {"read latest doc:a doc:b": [f"at {Z[1]}", "1 doc:a#viewer@u1", "2 doc:b#viewer@u1"]},
     {"resolve 0": ["done"]},
-]
-USERSETS = [
-    {"write +doc:a#viewer@group:g#member +group:g#member@u1": [f"ok {Z[1]}"]},
-    {"check latest doc:a#viewer@u1": [f"yes {Z[1]}"]},
-    {"write +group:g#member@group:h#member +group:h#member@group:g#member": [f"ok {Z[2]}"]},
-    {"check latest group:h#member@u2": [f"no {Z[2]}"]},
-]
-COLLECTED = [
-    *({f"write {change}doc:a#viewer@u1": [f"ok {Z[place]}"]} for place, change in enumerate("+-+", 1)),
-    {f"read ={Z[1]} doc:a": [f"at {Z[1]}", "1 doc:a#viewer@u1"]},
-    {f"read ={Z[2]} doc:a": [f"at {Z[2]}"]},
-    {f"read ={Z[3]} doc:a": [f"at {Z[3]}", "1 doc:a#viewer@u1"]},
-    {"rows 1": ["1 +doc:a#viewer@u1", "2 -doc:a#viewer@u1", "3 +doc:a#viewer@u1"]},
-    {"raise 2": ["done"], "collect 0": ["done"], "collect 1": ["done"]},
-    {f"read ={Z[1]} doc:a": ["refused 8 Collected"]},
-    {f"read ={Z[2]} doc:a": [f"at {Z[2]}"]},
-    {f"read >={Z[1]} doc:a": [f"at {Z[3]}", "1 doc:a#viewer@u1"]},
-    {"rows 1": ["3 +doc:a#viewer@u1"]},
-    {"write +doc:a#lock@lock if doc:a#lock@lock=1": ["refused 8 Collected"]},
 ]
 # A store that is carried over, and once more: what it had is there, and a write that is begun behind it ends. As many shards as before, so that each node has
 # the name that it had.
@@ -127,13 +108,26 @@ ENDING = "_" + "0123456789" * 3
 NAME = re.compile(r"\b(doc|group|lock|viewer|member|owner|u[123]|[abgh])\b")
 
 
+def groups_of(name):
+    """Of a script of examples/ each line with what it prints."""
+    printed = Path(TOP, "examples", f"{name}.out").read_text().splitlines()
+    reading = Reading(1, 2, printed)
+    return [{line: reading.line(line)[1]} for line in example(name)]
+
+
 def lengthened(text):
     return NAME.sub(lambda name: name[0] + ENDING, text)
 
 
+def lengthened_all(groups):
+    return [{lengthened(line): [*map(lengthened, wanted)] for line, wanted in group.items()} for group in groups]
+
+
 # How many allocations each script took when this was last written, by a program that was built without a proof.
-KNOWN = {"MANY": 821, "FEW": 528, "CHECKPOINTS": 1260, "UNSURE": 278, "USERSETS": 447, "COLLECTED": 379, "CARRIED": 1147}
-SCRIPTS = {name: [{lengthened(line): [lengthened(it) for it in wanted] for line, wanted in group.items()} for group in globals()[name]] for name in KNOWN}
+KNOWN = {"MANY": 821, "FEW": 528, "CHECKPOINTS": 1260, "UNSURE": 278, "CARRIED": 1147}
+KNOWN_EXAMPLES = {"check-through-usersets": 447, "collected": 403}
+SCRIPTS = {name: lengthened_all(globals()[name]) for name in KNOWN}
+SCRIPTS |= {name: lengthened_all(groups_of(name)) for name in KNOWN_EXAMPLES}
 NO_MEMORY = ["refused 14 NoMemory"]
 # By which lines a node is known to be open, once they are answered.
 NODES = {"c": re.compile("^(write|run|read|check)"), "0": re.compile(r"(doc_\w+:b|group_\w+:g)_| 0$"), "1": re.compile(r"doc_\w+:a_| 1$")}
@@ -149,13 +143,12 @@ class DiskRefused(Exception):
     """A device has failed, since it was refused its own growth."""
 
 
-class Run:
+class Run(Talking):
     """A run of the program in which one allocation is refused."""
 
     def __init__(self, refusing):
         self.begin()
-        pipes = {"stdin": subprocess.PIPE, "stdout": subprocess.PIPE, "stderr": subprocess.DEVNULL}
-        self.child = subprocess.Popen([zanstore(), "sim"], **pipes, env=refusing.environment(), text=True, bufsize=1)
+        super().__init__([zanstore(), "sim"], env=refusing.environment())
 
     def begin(self):
         self.refusals = self.answers = 0
@@ -163,16 +156,10 @@ class Run:
         # another line than one that writes.
         self.unseen, self.is_carried = {*NODES}, False
 
-    def give_line(self, line):
-        self.child.stdin.write(line + "\n")
-
-    def printed(self):
-        return self.child.stdout.readline().rstrip("\n")
-
     def ask(self, line, wanted):
         """What the line printed: as many lines as are wanted of it, or its refusal."""
-        self.give_line(line)
-        found = [self.printed()]
+        self.give(line)
+        found = [self.line()]
         if found == [""]:
             raise BrokenPipeError
         self.answers += 1
@@ -183,7 +170,7 @@ class Run:
             raise DiskRefused
         self.refusals += found == NO_MEMORY
         if not found[0].startswith("refused "):
-            found += [self.printed() for _ in wanted[1:]]
+            found += [self.line() for _ in wanted[1:]]
         return found
 
     def open_all(self):
@@ -191,7 +178,7 @@ class Run:
             if self.ask(f"restart {node}", ["up"]) != ["up"]:
                 raise Wrong(f"node {node} does not come up")
 
-    def give(self, group):
+    def gives(self, group):
         """Whether the lines of the group printed what they have to print; else they have to be given again."""
         for line, wanted in group.items():
             found = self.ask(line, wanted)
@@ -212,22 +199,15 @@ class Run:
         for group in script:
             opened = {*NODES} if any(line.startswith("reshard ") for line in group) else set()
             self.unseen |= opened
-            if not self.give(group) and not self.give(group):
+            if not self.gives(group) and not self.gives(group):
                 # A flow that has ended again: it has met a node whose opening was refused.
                 self.open_all()
-                if not self.give(group):
+                if not self.gives(group):
                     raise Wrong(f"refused for want of memory again and again: {list(group)}")
             if not opened:
                 self.unseen -= {node for node, lines in NODES.items() if any(lines.search(line) for line in group)}
         if self.refusals > 6:
             raise Wrong(f"{self.refusals} refusals of memory")
-
-    def end(self):
-        """Its status, and what it printed behind its last answer."""
-        with contextlib.suppress(BrokenPipeError):
-            self.child.stdin.close()
-        rest = self.child.stdout.read()
-        return self.child.wait(), rest
 
 
 def run(refusing, script, number):
@@ -252,7 +232,7 @@ def run(refusing, script, number):
     return kind
 
 
-@pytest.mark.parametrize("name", KNOWN)
+@pytest.mark.parametrize("name", SCRIPTS)
 def test_each_allocation(name, folder):
     """Far fewer allocations than there were, or a disk that fails for most of them, would show nothing."""
     signal.signal(signal.SIGALRM, give_up)
@@ -265,7 +245,7 @@ def test_each_allocation(name, folder):
             raise Wrong(f"allocation {number}: {wrong}") from None
     runs = sum(counts.values()) - 1
     print(f"refused memory: {runs} allocations, {counts['early']} before the first line, {counts['disk']} of the disk's own")
-    assert runs >= KNOWN[name] * 3 // 4 and max(counts["early"], counts["disk"]) <= runs // 4
+    assert runs >= {**KNOWN, **KNOWN_EXAMPLES}[name] * 3 // 4 and max(counts["early"], counts["disk"]) <= runs // 4
 
 
 class Spoiled(Run):
@@ -275,10 +255,10 @@ class Spoiled(Run):
         self.lines = [line for answer in answers for line in answer]
         self.begin()
 
-    def give_line(self, _):
+    def give(self, _):
         pass
 
-    def printed(self):
+    def line(self):
         return self.lines.pop(0) if self.lines else ""
 
 

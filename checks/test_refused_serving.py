@@ -1,10 +1,7 @@
-"""A session with a server again and again, in each of which one allocation of the server is refused.
+"""A session with a server again and again, in each of which one allocation of the server is refused:
+docs/CHECKS.md#refused-memory.
 
-A session has writes over both shards, with conditions, reads, checks, watches and refused lines. Each answer is what it is with memory, or `14 NoMemory`, and
-the same line is then sent again and is answered so. A session that breaks off is begun again at the same line; a write that was not answered may then stand.
-`10 Busy` may come behind a write that was refused or not answered, for some seconds. Some sessions share a server; behind them it is killed, and the next
-one finds just what was told. Then servers are started, in each of which one allocation of its start is refused: one says `ready` and serves, or says why not
-and ends. `--count` and `--seed` say how many allocations are tried, and which; `--full` tries each.
+`--count` and `--seed` say how many allocations are tried, and which; `--full` tries each.
 """
 import os
 import random

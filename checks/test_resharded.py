@@ -1,20 +1,14 @@
-"""What `zanstore reshard` makes of a store in files.
-
-Each row has a script make a store in a new folder (`harness files`), has the program carry it over to another folder, and holds what a script and dumps of that
-folder print against lines that were worked out by hand. Which faults of the old folder it tells stands in test_dumped.py.
-Then a store of some thousand tuples is carried over there and back by processes that are killed, each
-at some moment of a whole run, and the command is given again: behind each kill dumps of the old store are what they were, what the kill left is no store, or a
-whole one, and a second try comes out right. `--count` and `--kills` say how many tuples and kills there are, each way.
-"""
+"""What `zanstore reshard` makes of a store in files, against lines that were worked out by hand; which faults of the
+old folder it tells stands in test_dumped.py. Then a store of some thousand tuples is carried over there and back by
+processes that are killed (checks/carrying.py): `--count` and `--kills` say how many tuples and kills there are, each
+way."""
 import os
 from pathlib import Path
 
 import pytest
 
-from folders import DONE, THREE, A, B, C, at, beside, contents, dumped, empty, fault, resharded, script, token
-from programs import run, zanstore
-from resharding.carrying import there_and_back
-from resharding.spoiling import spoiled
+from folders import A, B, C, DONE, THREE, at, beside, contents, dumped, empty, fault, resharded, script, token
+from carrying import spoiled, there_and_back
 from verdicts import all_noticed
 
 GROUP = "servers"
@@ -113,14 +107,6 @@ def test_stopped(folder):
     # The first batch alone: a gate, four bytes of a length, the body, and the gate behind it, which is closed.
     path.write_bytes(whole[: 5 + int.from_bytes(whole[1:5], "big")] + b"\0")
     assert dumped(new, 3) == fault("16 Damaged", "the files of the coordinator are damaged"), "half of a coordinator"
-
-
-def test_usage(folder):
-    """a command line that can't be read, or that asks for help"""
-    given = f"reshard --dir {folder} --to {folder} --store 1 --shards 2"
-    for words, status in (("reshard", 2), (given, 2), (f"{given} --new-shards 65", 2), (f"{given} --new-shards 0", 2), ("reshard --help", 0)):
-        assert run([zanstore(), *words.split()])[0] == status, words
-    assert os.listdir(folder) == [], "the folder"
 
 
 @pytest.mark.long

@@ -1,14 +1,6 @@
-"""A server over files that is killed again and again, and what all its callers were told.
-
-Eight writers, three readers and a watcher ask a server over sockets. It is killed with SIGKILL at moments that a seed chooses, some of them within its
-opening, and started again over the same files. At the end the whole list of writes is read, and all that was told has to fit it: each acknowledged write
-at its place, with just its changes, none twice, and nothing else but writes that were open when the server was killed or were answered `12 Unsure`; each
-read and each token as it is at its place.
-
-A kill is no loss of power: what was written is there, synced or not. `test_power` makes it one: a preloaded library notes each write of the files and each
-sync, and behind the kill each range that was written and not synced holds what it held, a part of what was written, all of it, or any bytes, chosen by the
-seed, before the server is started again. A seed chooses what is asked and when a kill comes, and not which caller comes first.
-"""
+"""A server over files that is killed again and again, and what all its callers were told:
+docs/CHECKS.md#a-server-that-is-killed. A seed chooses what is asked and when a kill comes, and not which caller comes
+first."""
 import os
 from collections import Counter
 from random import Random
@@ -17,9 +9,7 @@ import pytest
 
 from judge.worlds import Wrong
 from serving.power import Power
-from serving.soak_judge import RULES, judged
-from serving.soak_sample import sample
-from serving.soak_spoiling import KINDS
+from serving.soak_judging import KINDS, RULES, judged, sample
 from serving.soaking import soaked
 from serving.wire import Gone
 from stressing.calls import UNANSWERED, Dump, Read, Watch, Write, calls_of

@@ -1,8 +1,5 @@
-"""Plays of two threads over one store in memory.
-
-`two-callers`: what a caller was told, another one sees whom it tells, and one who was told nothing where it asks for that place. `two-writers`: a writer gets
-on at its shard while another one is within its write at another shard. `harness` plays it, says what it found, and ends with 0 where all is so.
-"""
+"""Plays of two threads over one store, which `harness` plays and judges, and ends with 0 where all is so:
+docs/CHECKS.md#threads-over-one-store."""
 import pytest
 
 from programs import harness, run

@@ -1,10 +1,14 @@
 // A plain server for `bench/serve`: the same lines, the same writes and syncs of files, and answers from a map. It is what the proved server is measured
-// beside, and no store: it refuses less, and forgets nothing. `stub --dir DIR --store N --shards N --listen ADDR --workers N`; prints `ready`.
-#[path = "../log.rs"]
-mod log;
+// beside, and no store: it forgets nothing. `stub --dir DIR --store N --shards N --listen ADDR --workers N`; prints `ready`.
+mod json;
+#[path = "../lines/src/request.rs"]
+mod request;
 mod stub_lines;
 mod stub_log;
 mod stub_rows;
+#[allow(dead_code)]
+#[path = "../texts.rs"]
+mod texts;
 #[path = "../lines/src/token.rs"]
 mod token;
 
@@ -14,7 +18,8 @@ use std::net::{TcpListener, TcpStream};
 use std::path::Path;
 use std::sync::atomic::{AtomicU64, Ordering::SeqCst};
 use std::sync::{Mutex, RwLock};
-use stub_lines::{Answer, Change, Request};
+use request::{Freshness, Request, TOO_LARGE};
+use stub_lines::{changed, key_of, set_of, word, Answer, Change, Condition};
 use stub_log::Log;
 use stub_rows::Rows;
 
@@ -67,7 +72,7 @@ impl Store {
     }
 
     // Its part is durable at each shard, and then its decision at the coordinator, which one write makes at a time.
-    fn write(&self, changes: Vec<Change>, conditions: &[stub_lines::Condition]) -> Answer {
+    fn write(&self, changes: Vec<Change>, conditions: &[Condition]) -> Answer {
         let mut parts: HashMap<usize, Vec<&Change>> = HashMap::new();
         for change in &changes {
             parts.entry(self.shard_of(&change.key)).or_default().push(change);
@@ -80,7 +85,7 @@ impl Store {
         let mut side = self.coordinator.lock().unwrap();
         for condition in conditions {
             if !self.shards[self.shard_of(&condition.key)].rows.read().unwrap().meets(condition) {
-                return Answer::Refused(9, "Precondition");
+                return Answer::Refused((9, "Precondition"));
             }
         }
         let ticket = side.log.stage(&stub_lines::body_of(changes.iter()));
@@ -121,13 +126,13 @@ impl Store {
         Answer::Member(false, place)
     }
 
-    fn watch(&self, from: u64, limit: u64, namespaces: &[String]) -> Answer {
+    fn watch(&self, from: u64, limit: u64, namespaces: &[Vec<u8>]) -> Answer {
         let side = self.coordinator.lock().unwrap();
         let end = (from + limit).min(self.kept.load(SeqCst));
         let mut events = Vec::new();
         for place in from..end {
             for change in &side.writes[place as usize] {
-                if namespaces.iter().any(|name| change.key.starts_with(&format!("{name}\0"))) {
+                if namespaces.iter().any(|name| change.key.starts_with(&format!("{}\0", word(name)))) {
                     events.push((place + 1, change.clone()));
                 }
             }
@@ -137,12 +142,27 @@ impl Store {
 
     fn answer(&self, line: &[u8]) -> Answer {
         let kept = self.kept.load(SeqCst);
-        match stub_lines::read_request(line, self.number, kept) {
-            Ok(Request::Write(changes, conditions)) => self.write(changes, &conditions),
-            Ok(Request::Read(sets, exact)) => self.read(&sets, exact.unwrap_or(kept)),
-            Ok(Request::Check(key, exact)) => self.check(&key, exact.unwrap_or(kept)),
+        let place_of = |fresh| match fresh {
+            Freshness::AtLeast(place) | Freshness::Exact(place) if place > kept => None,
+            Freshness::Exact(place) => Some(place),
+            _ => Some(kept),
+        };
+        let answered = |answer: Option<Answer>| answer.unwrap_or(Answer::Refused((7, "Future")));
+        match request::parse(line, self.number) {
+            Ok(Request::Write(write)) => {
+                let conditions = write.conditions.into_iter();
+                let conditions = conditions.map(|one| Condition { key: key_of(&one.tuple), want: one.want });
+                self.write(write.changes.iter().map(changed).collect(), &conditions.collect::<Vec<_>>())
+            }
+            Ok(Request::Read(fresh, sets)) => {
+                let sets: Vec<_> = sets.iter().map(set_of).collect();
+                answered(place_of(fresh).map(|place| self.read(&sets, place)))
+            }
+            Ok(Request::Check(fresh, tuple)) => {
+                answered(place_of(fresh).map(|place| self.check(&key_of(&tuple), place)))
+            }
             Ok(Request::Watch(from, limit, namespaces)) => self.watch(from, limit, &namespaces),
-            Err((number, name)) => Answer::Refused(number, name),
+            Err(refusal) => Answer::Refused(refusal),
         }
     }
 }
@@ -160,7 +180,7 @@ fn serve(store: &Store, socket: TcpStream) -> std::io::Result<()> {
         if is_long {
             lines.skip_until(b'\n')?;
         }
-        let answer = if is_long { Answer::Refused(3, "TooLarge") } else { store.answer(&line) };
+        let answer = if is_long { Answer::Refused(TOO_LARGE) } else { store.answer(&line) };
         stub_lines::spell(&answer, store.number, &mut out);
         // Lines that were sent ahead are answered together.
         if !lines.buffer().contains(&b'\n') || out.len() > 65536 {

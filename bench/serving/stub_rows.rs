@@ -1,7 +1,7 @@
 // The tuples of a shard in a map, each with the places that changed it. A key is `namespace\0id\0relation\0` and the user: `0` and an id, or `1` and
 // `namespace\0id\0relation\0`; so keys are in the order of tuples, and those of an object lie side by side.
-use crate::log::Want;
 use crate::stub_lines::Condition;
+use crate::texts::log::Want;
 use std::collections::BTreeMap;
 
 #[derive(Default)]

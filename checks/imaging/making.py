@@ -3,11 +3,10 @@ import tempfile
 from collections import namedtuple
 from pathlib import Path
 
+from folders import script
 from imaging.format import CLOSED, NOT_AFTER, STRETCH, Begins, Ends, Epoch, Horizon, Learned, Row, Rules, batches_of, device_bytes
 from imaging.replaying import COORDINATOR, found, node_of
 from judge.making import Maker
-from programs import harness, lines_of
-from programs import run as ran
 
 # How many lives a store has: each begins with an opening, and goes on with a part of its script. Long images would only take longer.
 LIVES = 3
@@ -22,13 +21,6 @@ def few_shards(count):
     return [seed for seed in range(10 * count) if Maker(seed).shards <= 5][:count]
 
 
-def run(folder, store, shards, lines):
-    """What a life of the store over these files prints, line by line."""
-    status, out, _ = ran(harness("files", folder, store, shards), lines_of(lines))
-    assert not status, f"harness ended with status {status}"
-    return out.splitlines()
-
-
 def real_images(seed):
     """What the nodes of a store have on their devices behind a random script, in a few lives."""
     maker = Maker(seed)
@@ -36,7 +28,8 @@ def real_images(seed):
     lines = [line for line in maker.script() if not line.startswith(("restart", "fail"))][:MOST_LINES]
     with tempfile.TemporaryDirectory(prefix="images-") as folder:
         for life in range(LIVES):
-            run(folder, maker.store, maker.shards, lines[life * len(lines) // LIVES : (life + 1) * len(lines) // LIVES])
+            part = lines[life * len(lines) // LIVES : (life + 1) * len(lines) // LIVES]
+            script(folder, maker.shards, *part, store=maker.store)
         return images_of(folder, maker.store, maker.shards)
 
 

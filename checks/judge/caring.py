@@ -2,8 +2,7 @@
 import re
 
 from judge import definitions
-from judge.told import Told
-from judge.worlds import Wrong, must
+from judge.worlds import Told, Wrong, must
 
 
 class Cares(Told):

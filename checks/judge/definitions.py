@@ -1,4 +1,5 @@
 """What a log means: its snapshots, selections, memberships, events and versions. A log is a list of writes; places count from 1."""
+import itertools
 from collections import namedtuple
 
 # A user is (0, id) or (1, namespace, id, relation), so tuples compare as they are ordered: a plain user before a userset.
@@ -39,6 +40,14 @@ def snapshot(log, place):
     for write in log[:place]:
         for change in write.changes:
             (there.add if change.is_touch else there.discard)(change.tuple)
+    return there
+
+
+def changed(log, there=()):
+    """The tuples that are there behind a list of changes, each a text, if these were there before."""
+    there = set(there)
+    for change in itertools.chain(*log):
+        (there.add if change[0] == "+" else there.discard)(change[1:])
     return there
 
 

@@ -3,9 +3,11 @@
 Where a failure may have left one of two things, there is a world for each, and what the program prints rules worlds out.
 """
 import copy
+import re
 
 from judge import definitions
 from judge.definitions import home
+from judge.lines import REFUSALS, Refused, read_token
 
 
 class Wrong(Exception):
@@ -244,3 +246,24 @@ class World:
         if write.stage not in (2, 3, 4) or shard not in write.shards or shard in write.opened | write.dropped:
             return False
         return write.stage != 4 or not write.is_unsure and self.place(write) > self.kept
+
+
+class Told:
+    def is_printed(self, printed, text):
+        must(printed == [text], f"has to print {text!r}")
+
+    def refusal(self, printed):
+        found = re.fullmatch(r"refused (\d+) (\w+)", printed[0])
+        if not found:
+            return None
+        number = int(found[1])
+        must(1 <= number <= 16 and REFUSALS[number - 1] == found[2] and len(printed) == 1, "a refusal that is none")
+        must(number not in (14, 15, 16), "a refusal for which there is no cause")
+        return number
+
+
+def place_of(text, store):
+    try:
+        return read_token(text, store)
+    except Refused as refused:
+        raise Wrong("a token that is none of this store") from refused

@@ -3,6 +3,7 @@ import threading
 import time
 
 from serving.server import SHARDS, Server, is_start, run, untimed, waits
+from test_shortening import calls_round
 from serving.wire import Session, check, is_told, place_of, read, refusal, token, watch, write
 
 GROUP = "servers"
@@ -19,14 +20,10 @@ WRITES = 200
 LAST = 20
 
 
-def bytes_of(tuple):
-    """What docs/LIMITS.md says that a tuple counts for: 640 bytes, and four for each byte of its names."""
-    return 640 + 4 * sum(byte not in ":#@" for byte in tuple)
-
-
 def fit(one):
-    """How many tuples like this one fit into the share of a worker."""
-    return SHARE // bytes_of(one)
+    """How many tuples like this one fit into the share of a worker. As docs/LIMITS.md says, each counts for 640 bytes, and
+    four for each byte of its names."""
+    return SHARE // (640 + 4 * sum(byte not in ":#@" for byte in one))
 
 
 def member(object, number):
@@ -114,8 +111,7 @@ def write_many(session):
     """Writes of as many changes as may be. The place of the last one."""
     for number in range(WRITES):
         told = session.ask(write(*(f"+doc:{number:03}.{change:02}#viewer@user" for change in range(MANY))))
-    # Within a second of a write that was refused the store is tended.
-    is_told(session, write("+doc:none#viewer@ann", conditions=[{"tuple": "doc:none#viewer@ann", "want": "exists"}]), refusal(9, "Precondition"))
+    calls_round(session)
     return place_of(told)
 
 

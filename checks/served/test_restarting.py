@@ -1,13 +1,10 @@
 """What a server finds again that was killed."""
 import os
-import random
-import threading
-import time
 
 from imaging.format import STRETCH
 from judge.worlds import must
 from serving.server import SHARDS, Server, is_start, untimed, waits
-from serving.wire import Gone, Session, check, is_told, place_of, read, refusal, token, watch, write
+from serving.wire import Session, check, is_told, place_of, read, refusal, token, watch, write
 
 GROUP = "servers"
 COUNT = 100
@@ -34,60 +31,6 @@ def test_killed(folder):
         is_told(session, check("doc:d7#viewer@ann", exact=token(7)), {"member": True, "zookie": token(7)})
         is_told(session, check("doc:d7#viewer@ann", exact=token(6)), {"member": False, "zookie": token(6)})
         is_told(session, write("+doc:more#viewer@ann"), {"zookie": token(COUNT + 1)})
-
-
-def writes_on(port, told, faults):
-    """Writes until the server is gone; `told` gets the numbers that were answered, and `faults` why it ended otherwise."""
-    try:
-        with Session(port) as session:
-            for number in range(1, 1000000):
-                is_told(session, write(f"+doc:d{number}#viewer@ann"), {"zookie": token(number)})
-                told.append(number)
-    except Gone:
-        pass
-    except Exception as fault:
-        faults.append(fault)
-
-
-def test_killed_writing(folder):
-    """kill -9 in the midst of writes: each that was answered is there, and at most one more"""
-    told, faults = [], []
-    with Server(folder) as first:
-        writer = threading.Thread(target=writes_on, args=(first.port, told, faults))
-        writer.start()
-        late = time.monotonic() + 10
-        while len(told) < 50 and time.monotonic() < late:
-            time.sleep(0.01)
-        time.sleep(random.uniform(0, 0.01))
-        first.kill()
-        writer.join()
-    assert not faults and told
-    with Server(folder) as second, Session(second.port) as session:
-        answer = session.ask(read("doc@ann"))
-        last = place_of(answer)
-        assert last - len(told) in (0, 1)
-        assert sorted(answer["sets"][0]) == sorted(f"doc:d{number}#viewer@ann" for number in range(1, last + 1))
-
-
-def test_followed(folder):
-    """a watch that is followed over a restart"""
-    seen, at = [], token(0)
-    for life in range(3):
-        with Server(folder) as server, Session(server.port) as writer, Session(server.port) as watcher:
-            for number in range(1, 11):
-                tuple = f"doc:{life}.{number}#viewer@ann"
-                is_told(writer, write("+" + tuple), {"zookie": token(10 * life + number)})
-                if number % 4 == 0:
-                    answer = watcher.ask(watch(at, "doc", limit=3))
-                    seen, at = seen + answer["events"], answer["heartbeat"]
-    with Server(folder) as server, Session(server.port) as watcher:
-        while at != token(30):
-            answer = watcher.ask(watch(at, "doc", limit=256))
-            must(answer["heartbeat"] != at, "a watch stands still before the end")
-            seen, at = seen + answer["events"], answer["heartbeat"]
-        is_told(watcher, watch(at, "doc"), {"events": [], "heartbeat": at})
-    wanted = [(10 * life + number, f"doc:{life}.{number}#viewer@ann") for life in range(3) for number in range(1, 11)]
-    must([(event["place"], event["tuple"]) for event in seen] == wanted, f"has seen {seen}")
 
 
 def test_full_disk(folder):

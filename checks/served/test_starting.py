@@ -58,14 +58,6 @@ def test_bad_command_lines(folder):
     must(not os.listdir(folder), f"a bad command line leaves {os.listdir(folder)}")
 
 
-def test_help(folder):
-    """status 0, and the words of the command line"""
-    status, out, err = run("serve", "--help")
-    must(status == 0, f"has status {status}, and prints {err}")
-    for name in ("--dir", "--store", "--shards", "--listen", "--workers", "--window", "--connections", "--idle", "--existing", "--end-when-down"):
-        must(name in out, f"does not tell {name}")
-
-
 def test_no_folder(folder):
     """a folder that is not there, or is none: `13 Down`"""
     none, file = os.path.join(folder, "none"), os.path.join(folder, "file")

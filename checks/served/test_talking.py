@@ -108,16 +108,6 @@ def test_fresh_reads(folder):
             assert place_of(answer) >= number
 
 
-def test_two_sessions(folder):
-    """two sessions at once, with two workers"""
-    with Server(folder, workers=2) as server, Session(server.port) as first, Session(server.port) as second:
-        for number in range(1, 51):
-            session = first if number % 2 else second
-            is_told(session, write(f"+doc:d{number}#viewer@ann"), {"zookie": token(number)})
-        is_told(first, check("doc:d50#viewer@ann"), {"member": True, "zookie": token(50)})
-        is_told(second, check("doc:d49#viewer@ann"), {"member": True, "zookie": token(50)})
-
-
 def met(folder, workers):
     """`both`, where two writes of different shards are within their first syncs at the same time, or `late`; and their answers."""
     os.mkdir(folder)
@@ -235,15 +225,6 @@ def test_half_lines(folder):
             ends_with(session, half, BAD_REQUEST + b"\n")
         with Session(server.port) as session:
             is_told(session, read("doc:half"), {"sets": [[]], "zookie": token(0)})
-
-
-def test_slow_lines(folder):
-    """a line that comes in pieces"""
-    line = spelled(write("+doc:a#viewer@ann"))
-    with Server(folder) as server, Session(server.port) as session:
-        for at in range(len(line)):
-            session.send(line[at : at + 1])
-        is_next(session, {"zookie": token(1)})
 
 
 def test_long_lines(folder):

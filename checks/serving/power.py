@@ -65,10 +65,6 @@ class File:
         self.content.extend(bytes(max(0, at - len(self.content))))
         self.content[at : at + len(some)] = some
 
-    def undo(self, note):
-        self.put(note.offset, note.old)
-        del self.content[note.before :]
-
     def tear(self, random, note, counts):
         end = note.offset + note.length
         base = bytes(self.content[note.offset : end]).ljust(note.length, b"\0")
@@ -106,7 +102,8 @@ class Power:
         for name, ranges in writes.items():
             file = File(Path(self.folder, name))
             for note in reversed(ranges):
-                file.undo(note)
+                file.put(note.offset, note.old)
+                del file.content[note.before :]
             for note in ranges:
                 file.tear(self.random, note, self.counts)
             file.save()

@@ -10,8 +10,8 @@ from judge.worlds import Wrong, must
 from serving import wire
 from serving.server import SHARDS, STORE, Server, run
 from serving.wire import Gone, Session, place_of, token
-from stressing.answering import PRECONDITION, UNSURE
 from stressing.calls import UNANSWERED, Call, Caller, Dump, Read, Restart, Run, Watch, Write
+from stressing.judging import PRECONDITION, UNSURE
 from stressing.reading import tuple_of
 
 WRITERS, READERS = 8, 3

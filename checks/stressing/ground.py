@@ -1,10 +1,15 @@
 """A good run that is to be spoiled: choosing among its calls, and putting others in their place."""
+from judge.definitions import Change
+from judge.lines import read_tuple
 from stressing.calls import Caller, Check, Read, Run, Watch
 from stressing.history import History, Moments
 from verdicts import Choosing
 
 # Between two ticks of a run that is to be spoiled there is room for others.
 ROOM = 10
+# A tuple that nobody writes, and a change of it.
+STRANGER = read_tuple("doc:stranger#owner@u0")
+NEW = Change(True, STRANGER)
 
 
 def roomy(run):
@@ -92,11 +97,13 @@ class Ground(Choosing):
         return Run(run.seed, run.shards, callers)
 
 
-def other_call(kind, change, is_so=lambda ground, call: True, pick=Ground.told):
+def spoiling(how):
+    """Of a way to spoil a ground, which is told more, the one that is told so."""
+    return lambda *more, **named: lambda ground: how(ground, *more, **named)
+
+
+@spoiling
+def other_call(ground, kind, change, is_so=lambda ground, call: True, pick=Ground.told):
     """A call of this kind, of which this is so, is another one."""
-
-    def spoil(ground):
-        where, call = pick(ground, kind, lambda call: is_so(ground, call))
-        return ground.with_calls(where, change(ground, call))
-
-    return spoil
+    where, call = pick(ground, kind, lambda call: is_so(ground, call))
+    return ground.with_calls(where, change(ground, call))

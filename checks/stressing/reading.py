@@ -102,3 +102,12 @@ def read_run(lines):
         except Refused as refused:
             raise Wrong(f"line {number}: no line of a run: {line[:200]!r}") from refused
     return Run(seed, shards, callers)
+
+
+def lines_in(text):
+    """Its lines, or raises `Wrong` where the last one is not ended, or bytes are none of a line."""
+    if text and not text.endswith(b"\n"):
+        raise Wrong(f"the last line is not ended: {text[-100:]}")
+    if not text.isascii() or b"\r" in text:
+        raise Wrong("prints bytes that are none of a line")
+    return text[:-1].decode().split("\n") if text else []

@@ -4,15 +4,15 @@ from functools import partial
 from random import Random
 
 from judge.worlds import Wrong
-from stressing import spoiled_answers, spoiled_forms, spoiled_lists, spoiled_refusals
+from stressing import spoiled_answers, spoiled_lists
 from stressing.calls import Run, lines_of
 from stressing.ground import Ground, roomy
 from stressing.judging import judged
-from stressing.running import lines_in
+from stressing.reading import lines_in
 from verdicts import Nothing
 
-OF_CALLS = {**spoiled_lists.KINDS, **spoiled_answers.KINDS, **spoiled_refusals.KINDS}
-KINDS = {**OF_CALLS, **spoiled_forms.KINDS}
+OF_CALLS = {**spoiled_lists.KINDS, **spoiled_answers.KINDS, **spoiled_answers.OF_REFUSALS}
+KINDS = {**OF_CALLS, **spoiled_lists.OF_FORM}
 # How often each kind is tried on a run of at most so many calls; on a longer one it is tried once.
 TRIES, CALLS = 3, 5000
 

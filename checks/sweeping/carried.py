@@ -3,9 +3,8 @@ import subprocess
 from collections import namedtuple
 
 from judge.lines import token
-from programs import harness, lines_of
-from programs import run as given
-from sweeping.asking import LIMIT
+from programs import harness, lines_of, run as given
+from sweeping.looking import LIMIT
 from sweeping.scripts import STORE
 from verdicts import double, less
 

@@ -1,10 +1,78 @@
 """One run: a script whose devices fail, then all nodes are opened again, and what the store shows is held against what the script was told."""
+import resource
+import signal
+import sys
+from collections import namedtuple
+
+from judge.definitions import changed
 from judge.lines import token
-from judge.reading import Failed, judged
-from judge.told import place_of
-from judge.worlds import Wrong, must
-from sweeping.asking import Sim
+from judge.reading import Failed, Reading, judged
+from judge.worlds import Wrong, must, place_of
+from programs import Talking
+from programs import zanstore as program
 from sweeping.scripts import NODES, SCRIPTS, SHARDS, STORE, halves, namespaces, objects, requests, texts
+
+# Far more processor seconds than a script takes: a flow that goes on for ever is told.
+PROCESSOR_SECONDS = 5
+# Far more seconds than a script takes where much else runs: a program that waits for ever is told.
+LIMIT = 300
+
+# A line, the command that it was read as (none where it is refused by its shape), and what it printed.
+Told = namedtuple("Told", "line command printed")
+
+
+class Live:
+    """The lines that a program prints, each awaited when it is looked at. Of a program that runs there are always more."""
+
+    def __init__(self, stream):
+        self.stream = stream
+        self.lines = []
+
+    def __len__(self):
+        return sys.maxsize
+
+    def __getitem__(self, at):
+        if isinstance(at, slice):
+            return self.lines[at]
+        while len(self.lines) <= at:
+            line = self.stream.readline()
+            if not line.endswith("\n"):
+                raise Wrong(f"the program has ended, or it has used up its {PROCESSOR_SECONDS} seconds, behind {self.lines[-1:]}")
+            self.lines.append(line[:-1])
+        return self.lines[at]
+
+
+def give_up(*_):
+    raise Wrong(f"no answer for {LIMIT} seconds")
+
+
+class Sim(Talking):
+    def __init__(self):
+        signal.signal(signal.SIGALRM, give_up)
+        signal.alarm(LIMIT)
+        super().__init__([program(), "sim", "--store", STORE, "--shards", SHARDS])
+        resource.prlimit(self.child.pid, resource.RLIMIT_CPU, (PROCESSOR_SECONDS, PROCESSOR_SECONDS))
+        self.reading = Reading(STORE, SHARDS, Live(self.child.stdout))
+
+    def __exit__(self, *_):
+        signal.alarm(0)
+        super().__exit__()
+
+    def give(self, *lines):
+        try:
+            super().give(*lines)
+        except BrokenPipeError as broken:
+            raise Wrong("the program takes no more lines") from broken
+
+    def told(self, line):
+        """What this line printed, the next of those given. Behind the last one given stands one whose answer says itself where it ends."""
+        return Told(line, *self.reading.line(line))
+
+    def end(self):
+        status, rest = super().end()
+        if rest or status != 0:
+            raise Wrong(f"the program ended with status {status}, and printed {rest} behind its last answer")
+
 
 COLLECTED = ["refused 8 Collected"]
 DOWN = ["refused 13 Down"]
@@ -60,7 +128,7 @@ def gather(name, fails):
     def ask(*parts):
         lines = [(part, line) for part, lines in parts for line in lines]
         look.given += [line for _, line in lines]
-        sim.give([line for _, line in lines])
+        sim.give(*(line for _, line in lines))
         for part, line in lines:
             look.note(part, sim.told(line))
 
@@ -142,9 +210,7 @@ def snapshots_meet(look):
     latest, there = rows(look.part("latest")[0])
     horizon, found = rows(look.part("snapshot")[0])
     must(horizon == look.horizon, f"a read at {look.horizon} is told at {horizon}")
-    for _, changes in sorted(events(look).items()):
-        for change in changes:
-            (found.add if change[0] == "+" else found.discard)(change[1:])
+    found = changed([changes for _, changes in sorted(events(look).items())], found)
     must(there == found, f"{sorted(there)} are read at last, and the events make {sorted(found)}")
     must(latest == heartbeat(look, -1), f"read at {latest}, and watched up to {heartbeat(look, -1)}")
 

@@ -1,6 +1,7 @@
-"""The scripts that are swept, each a name and its lines. One more needs no more than its lines here."""
+"""The scripts that are swept, each a name and its lines. One more needs no more than its name, or its lines, here."""
 from judge.definitions import change_text
-from judge.lines import Reader, Refused, token
+from judge.lines import Reader, Refused
+from programs import example
 
 STORE = 1
 SHARDS = 2
@@ -14,44 +15,20 @@ NO_LINE = "?"
 FROM_HERE = "from here"
 
 
-def at(place):
-    return "=" + token(STORE, place)
+# Scripts of examples/ for a store of this number, and of two shards; a failure of their own is left out.
+EXAMPLES = (
+    *("restart-before-decide-until-decide", "restart-before-decide-until-vote", "lock-and-busy", "collected"),
+    *("undecided-and-cancelled", "learned-record-lost"),
+)
 
 
-def restart_before(call):
-    return [
-        "start w write +doc:a#viewer@u1 +doc:b#viewer@u1",
-        f"until w {call}",
-        *("restart c", "resolve 0", "resolve 1"),
-        *("run w", "read latest doc:a doc:b", "write +doc:a#viewer@u1"),
-    ]
+def ended(line):
+    return [line, NO_LINE] if line.startswith("rows ") else [line] * (not line.startswith("fail "))
 
 
-# Two shards: doc:a is of shard 1, doc:b of shard 0.
+# Doc:a is of shard 1, doc:b of shard 0.
 SCRIPTS = {
-    "restart-before-decide": restart_before("decide"),
-    "restart-before-vote": restart_before("vote"),
-    "lock-and-busy": [
-        *("write +doc:a#lock@lock if doc:a#lock@lock=0", "write +doc:a#lock@lock if doc:a#lock@lock=0"),
-        *("start v write +doc:a#lock@lock if doc:a#lock@lock=1", "until v decide"),
-        *("write +doc:a#lock@lock if doc:a#lock@lock=1", "run v"),
-    ],
-    "collected": [
-        *("write +doc:a#viewer@u1", "write -doc:a#viewer@u1", "write +doc:a#viewer@u1"),
-        *(f"read {at(1)} doc:a", f"read {at(2)} doc:a", f"read {at(3)} doc:a", "rows 1", NO_LINE),
-        *("raise 2", "collect 0", "collect 1"),
-        *(f"read {at(1)} doc:a", f"read {at(2)} doc:a", f"read {at(3)} doc:a", f"read >{at(1)} doc:a", "rows 1", NO_LINE),
-        "write +doc:a#lock@lock if doc:a#lock@lock=1",
-    ],
-    "undecided-and-cancelled": [
-        *("start w write +doc:a#viewer@u1", "until w decide", "restart 1", "resolve 1", "run w", "read latest doc:a#viewer"),
-        *("start x write -doc:a#viewer@u1", "until x decide", "cancel x", "read latest doc:a"),
-    ],
-    # Without a failure of its own.
-    "learned-record-lost": [
-        *("write +doc:a#viewer@u1", "learn 1", "raise 1", "restart 1"),
-        *(f"read {at(0)} doc:a", f"read {at(1)} doc:a"),
-    ],
+    **{name: [part for line in example(name) for part in ended(line)] for name in EXAMPLES},
     # Two decisions are staged and become durable by one flush, and then both shards collect.
     "two-decisions-in-one-flush": [
         *("start v write +doc:a#viewer@u1 +doc:b#viewer@u1", "until v decide"),

@@ -1,4 +1,12 @@
 // The measure of crates/bench/src/lines.rt in plain Rust: the same lines, read and written with serde_json, and the same tests of each.
+mod json {
+    pub use serde_json::Value;
+    pub type Members = serde_json::Map<String, Value>;
+
+    pub fn read(line: &[u8]) -> Option<Value> {
+        serde_json::from_slice(line).ok()
+    }
+}
 mod request;
 mod token;
 #[allow(dead_code)]

@@ -1,8 +1,9 @@
-// Requests, from their lines, with the tests of crates/requests in their order: shape, sizes, texts, tokens, repeats.
+// Requests, from their lines, with the tests of crates/requests in their order: shape, sizes, texts, tokens, repeats. Who
+// has this module says by `json` how a line is read as JSON.
+use crate::json::{self, Members, Value};
 use crate::texts::log::{Change, Condition, Object, Tuple, User, Want};
 use crate::texts::{self, name};
 use crate::token;
-use serde_json::{Map, Value};
 use std::collections::HashSet;
 
 /// The number and the name of a refusal.
@@ -40,8 +41,6 @@ pub enum Request {
     Check(Freshness<u64>, Tuple),
     Watch(u64, u64, Vec<Vec<u8>>),
 }
-
-type Members = Map<String, Value>;
 
 fn only(members: &Members, keys: &[&str]) -> Result<(), Refusal> {
     if members.keys().all(|key| keys.contains(&key.as_str())) { Ok(()) } else { Err(BAD_REQUEST) }
@@ -198,7 +197,7 @@ fn watch_of(members: &Members, store: u64) -> Result<Request, Refusal> {
 
 /// The request of a line at this store.
 pub fn parse(line: &[u8], store: u64) -> Result<Request, Refusal> {
-    let value: Value = serde_json::from_slice(line).map_err(|_| BAD_REQUEST)?;
+    let value = json::read(line).ok_or(BAD_REQUEST)?;
     let members = value.as_object().ok_or(BAD_REQUEST)?;
     match text(members, "op")? {
         "write" => write_of(members, store),

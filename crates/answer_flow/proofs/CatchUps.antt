@@ -86,7 +86,7 @@ refused_learn held (learning false) b e c fits gives = ⊎_elim
     (λ (not : e ≢ Full). absurd (let wrong = gives.1 (inl not) in cc))
     (is_full e)
 
--- and so does a reply behind which it goes on
+-- and so does a reply after which it goes on
 pub goes_on : (call : CatchUpCallValue) (reply : Reply) (c : CatchUpValue) → catching.Fits call.awaited reply → catching.Gives call reply (Next c) → (c.shard ≡ call.held.shard) × (c.to ≡ call.held.to)
 unfolding IsSameWay
 goes_on call (from_coordinator (told.Batch (Ok b))) c fits gives = with_batch call c _ _ _ _ gives

@@ -45,7 +45,7 @@ shorter left right t left_now right_now takes = ⊎_elim
     more)
     takes
 
--- one list behind another ascends where both do, and the one ends before the other begins
+-- one list after another ascends if both do, and the one ends before the other begins
 joined : (xs : List Tuple) (t : Tuple) (m : List Tuple) → AreAscending xs → AreAscending (t ∷ m) → EndsBefore xs t → AreAscending (xs ++ t ∷ m)
 joined [] t m asc more ends = more
 joined (x ∷ []) t m asc more ends = (ends x refl, more)

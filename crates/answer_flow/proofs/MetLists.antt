@@ -134,7 +134,7 @@ first_met keys waiting z keys_now waiting_now no_keys none_waits met =
     let walk : IsWalk keys [] = subst (λ (ks : List Userset). IsWalk ks []) (sym no_keys) none in
     (subst (IsWalk keys_now) (sym is) (pushed keys [] keys_now z walk not (met.first not).1), is)
 
--- a row is the one by which a userset holds a user, exactly where each of its parts is
+-- a row is the one by which a userset holds a user, exactly if each of its parts is
 pub holding_is : (y : Userset) (u : User) (row : Tuple) → is_eq (object_cmp row.object y.object) ≡ true → is_eq (name_cmp row.relation y.relation) ≡ true → is_eq (user_cmp row.user u) ≡ true
     → row ≡ holding y u
 holding_is y u row same_object same_relation same_users =

@@ -50,7 +50,7 @@ pub record Reads (shards : ℕ) (user : User) (v : CheckView) (call : NodeCall) 
   pub call_is : call ≡ Shard (shard_of shards first.object) (shard_calls.ReadForCheck place first user)
   pub waits : after ≡ waiting read read_call v.holds
 
--- the call of each step: heads, and a flush for them, where it has no place yet
+-- the call of each step: heads, and a flush for them, if it has no place yet
 abbrev pub AsksFor : CheckStep → ℕ → User → CheckView → NodeCall → CheckView → Type 0
 AsksFor heads shards user v call after = (v.holds.place ≡ None) × (call ≡ Coordinator calls.Heads) × (after ≡ waiting heads heads_call v.holds)
 AsksFor flush shards user v call after = (v.holds.place ≡ None) × (call ≡ Coordinator calls.Flush) × (after ≡ waiting flush flush_call v.holds)
@@ -66,7 +66,7 @@ pub record Asks (shards : ℕ) (user : User) (v : CheckView) (call : NodeCall) (
 abbrev pub LacksMemory : CheckView → Type 0
 LacksMemory after = after ≡ ended (refused NoMemory)
 
--- It goes on to the first userset that waits. Where none waits the user is no member; and where one waits and as many were walked as may be, it is refused.
+-- It goes on to the first userset that waits. If none waits the user is no member; and if one waits and as many were walked as may be, it is refused.
 pub record Continues (place : ℕ) (h : CheckHolds) (after : CheckView) : Type 0 where
   pub no : h.waiting ≡ [] → after ≡ ended (checked place false)
   pub full : h.waiting ≢ [] → max_walked ≤ length h.walked → after ≡ ended (refused Full)
@@ -78,7 +78,7 @@ HeadsGive fresh v (Ok told_heads) after = ((place : ℕ) × FindsPlace fresh tol
     ⊎ ((IsNotKept fresh told_heads × (after ≡ at_rest flush v.holds)) ⊎ ((e : Refusal) × IsRefused fresh told_heads e × (after ≡ ended (refused e))))
 HeadsGive fresh v (Err e) after = after ≡ ended (refused e)
 
--- behind a flush it asks for heads again
+-- after a flush it asks for heads again
 abbrev pub FlushGives : CheckView → Result (Unit {0}) Refusal → CheckView → Type 0
 FlushGives v (Ok done) after = after ≡ at_rest heads v.holds
 FlushGives v (Err e) after = after ≡ ended (refused e)
@@ -99,17 +99,17 @@ pub record CatchUpGives (v : CheckView) (awaited : Awaited) (reply : Reply) (aft
   pub gives : catching.Gives call reply progress
   pub then_gives : ProgressGives v progress after
 
--- It stays as it is; or the shard of the first that waits is read before it is asked how far it has learned, as where it has told that it is there.
+-- It stays as it is; or the shard of the first that waits is read before it is asked how far it has learned, as if it has told that it is there.
 abbrev pub HastensCheck : CheckView → CheckView → Type 0
 HastensCheck v after = (after ≡ v) ⊎ ((after ≡ at_rest read (record v.holds { batch = None })) ⊎ LacksMemory after)
 
--- The rows of the userset that was walked: yes where they have the user; else it was walked, and those wait that it names for the first time.
+-- The rows of the userset that was walked: yes if they have the user; else it was walked, and those wait that it names for the first time.
 pub record RowsGive (user : User) (place : ℕ) (h : CheckHolds) (y : Userset) (rows : List Tuple) (after : CheckView) : Type 0 where
   pub yes : Contains rows (holding y user) → after ≡ ended (checked place true)
   pub further : (Contains rows (holding y user) → ⊥)
       → LacksMemory after ⊎ ((next : CheckHolds) × Walks y rows h next × (next.walked ≡ h.walked ++ y ∷ []) × Continues place next after)
 
--- the shard has read; where it has not learned so far it is brought up to the place once more
+-- the shard has read; if it has not learned so far it is brought up to the place once more
 abbrev pub ReadGives : User → CheckView → Result ReadReply Refusal → CheckView → Type 0
 ReadGives user v (Ok (Rows rows)) after = (place : ℕ) (y : Userset) → v.holds.place ≡ Some place → slice_get v.holds.waiting 0 ≡ Some y → RowsGive user place v.holds y rows.items after
 ReadGives user v (Ok Behind) after = (y : Userset) → slice_get v.holds.waiting 0 ≡ Some y → after ≡ at_rest catch_up v.holds

@@ -7,7 +7,7 @@ use Rattle.decisions.specs.Standing.{HeadsValue}
 use Rattle.answer_flow.specs.declared.finding.Found.{Found}
 use Rattle.answer_flow.specs.declared.finding.Found.TheVariants.{At, Later, Refused}
 
--- the place that heads give: the kept one; the kept one, where it is not below the one given; or the one given, where it is kept and not below the horizon
+-- the place that heads give: the kept one; the kept one, if it is not below the one given; or the one given, if it is kept and not below the horizon
 abbrev pub FindsPlace : Freshness → HeadsValue → ℕ → Type 0
 FindsPlace latest v place = place ≡ v.kept
 FindsPlace (at_least z) v place = (place ≡ v.kept) × (z ≤ place)

@@ -7,7 +7,7 @@ use Rattle.tuples.specs.Order.{tuple_lt}
 abbrev pub EndsBefore : List Tuple → Tuple → Type 0
 EndsBefore ts t = (u : Tuple) → slice_get ts (length ts - 1) ≡ Some u → tuple_lt u t ≡ true
 
--- The tuple was the last of one list, behind the last of the other, or of both; none where both are empty.
+-- The tuple was the last of one list, after the last of the other, or of both; none if both are empty.
 abbrev pub TakesLast : List Tuple → List Tuple → Option Tuple → List Tuple → List Tuple → Type 0
 TakesLast left right None left_now right_now = (left ≡ []) × (right ≡ []) × (left_now ≡ []) × (right_now ≡ [])
 TakesLast left right (Some t) left_now right_now = ((left ≡ left_now ++ t ∷ []) × (right_now ≡ right) × EndsBefore right t)

@@ -66,7 +66,7 @@ pub record ReadCallValue : Type 0 where
   pub awaited : ReadAwaited
   pub holds : ReadHolds
 
--- the shard that a tupleset asks, where those below a number are done: that of its object, or the next one
+-- the shard that a tupleset asks, if those below a number are done: that of its object, or the next one
 abbrev pub shard_for : ℕ → Tupleset → ℕ → ℕ
 shard_for shards (Key t) below = shard_of shards t.object
 shard_for shards (OfObject o relation) below = shard_of shards o

@@ -64,7 +64,7 @@ pub record Asks (shards : ℕ) (sets : List Tupleset) (v : ReadView) (call : Nod
 abbrev pub LacksMemory : ReadView → Type 0
 LacksMemory after = after ≡ ended (refused NoMemory)
 
--- it goes on to the next tupleset; behind the last one it ends
+-- it goes on to the next tupleset; after the last one it ends
 pub record Continues (sets : List Tupleset) (place : ℕ) (h : ReadHolds) (after : ReadView) : Type 0 where
   pub more : length h.done < length sets → (after ≡ at_rest catch_up h) ⊎ LacksMemory after
   pub last : length sets ≤ length h.done → after ≡ ended (selected place h.done)
@@ -75,7 +75,7 @@ HeadsGive fresh sets (Ok v) after = ((place : ℕ) × FindsPlace fresh v place �
     ⊎ ((IsNotKept fresh v × (after ≡ at_rest flush nothing_read)) ⊎ ((e : Refusal) × IsRefused fresh v e × (after ≡ ended (refused e))))
 HeadsGive fresh sets (Err e) after = after ≡ ended (refused e)
 
--- behind a flush it asks for heads again
+-- after a flush it asks for heads again
 abbrev pub FlushGives : Result (Unit {0}) Refusal → ReadView → Type 0
 FlushGives (Ok done) after = after ≡ at_rest heads nothing_read
 FlushGives (Err e) after = after ≡ ended (refused e)
@@ -96,7 +96,7 @@ pub record CatchUpGives (v : ReadView) (awaited : Awaited) (reply : Reply) (afte
   pub gives : catching.Gives call reply progress
   pub then_gives : ProgressGives v progress after
 
--- It stays as it is; or the shard reads before it is asked how far it has learned, as where it has told that it is there.
+-- It stays as it is; or the shard reads before it is asked how far it has learned, as if it has told that it is there.
 abbrev pub HastensRead : ReadView → ReadView → Type 0
 HastensRead v after = (after ≡ v) ⊎ (after ≡ at_rest read (record v.holds { batch = None }))
 
@@ -104,7 +104,7 @@ HastensRead v after = (after ≡ v) ⊎ (after ≡ at_rest read (record v.holds 
 abbrev pub Finishes : List Tupleset → ℕ → ReadHolds → List Tuple → ReadView → Type 0
 Finishes sets place h rows after = LacksMemory after ⊎ Continues sets place (record h { done = h.done ++ rows ∷ []; below = 0; rows = [] }) after
 
--- The rows of one shard more are merged with the others, and behind the last shard the tupleset is done.
+-- The rows of one shard more are merged with the others, and after the last shard the tupleset is done.
 pub record Merges (shards : ℕ) (sets : List Tupleset) (place : ℕ) (h : ReadHolds) (more : List Tuple) (after : ReadView) : Type 0 where
   pub merged : List Tuple
   pub is_merged : AreAscending h.rows → AreAscending more → IsMerged h.rows more merged
@@ -117,7 +117,7 @@ RowsGive shards sets place h (Key t) more after = Finishes sets place h more aft
 RowsGive shards sets place h (OfObject o relation) more after = Finishes sets place h more after
 RowsGive shards sets place h (OfUser n u relation) more after = LacksMemory after ⊎ Merges shards sets place h more after
 
--- the shard has read; where it has not learned so far it is brought up to the place once more
+-- the shard has read; if it has not learned so far it is brought up to the place once more
 abbrev pub ReadGives : ℕ → List Tupleset → ReadView → Tupleset → Result ReadReply Refusal → ReadView → Type 0
 ReadGives shards sets v set (Ok (Rows more)) after = (place : ℕ) → v.holds.place ≡ Some place → RowsGive shards sets place v.holds set more.items after
 ReadGives shards sets v set (Ok Behind) after = after ≡ at_rest catch_up v.holds

@@ -39,7 +39,7 @@ pub record LetsWait (y : Userset) (rows : List Tuple) (met : List Userset) (keys
   pub all : (z : Userset) → Contains rows (holding y (Set z)) → Contains met z ⊎ Contains more z
   pub walk : IsWalk keys (met ++ more)
 
--- The first userset that waits was walked; those that its rows name wait behind the others, where they are met for the first time.
+-- The first userset that waits was walked; those that its rows name wait after the others, if they are met for the first time.
 pub record IsWalked (y : Userset) (rest : List Userset) (rows : List Tuple) (old new : WalkValue) : Type 0 where
   pub walked : new.walked ≡ old.walked ++ y ∷ []
   pub more : List Userset

@@ -15,7 +15,7 @@ use Rattle.answer_flow.specs.declared.watch_phase.Ready.TheVariants as ready
 use Rattle.answer_flow.specs.declared.watch_phase.Out.{Out}
 use Rattle.answer_flow.specs.declared.watch_phase.Out.TheVariants as out
 
--- What a watch does next: it asks for heads, has the coordinator flushed, or fetches the decisions behind its cursor. Each is a call.
+-- What a watch does next: it asks for heads, has the coordinator flushed, or fetches the decisions after its cursor. Each is a call.
 pub data WatchStep : Type 0 where
   heads : WatchStep
   flush : WatchStep

@@ -16,7 +16,7 @@ use Rattle.calls.specs.declared.reply.CoordinatorReply.TheVariants as told
 use Rattle.answer_flow.specs.Finding.{FindsPlace, IsNotKept, IsRefused}
 use Rattle.answer_flow.specs.WatchViews.{WatchStep, WatchView, at_rest, batch, ended, flush, heads, listed, refused, waiting, with_heads}
 
--- the place up to which a watch lists all: so many behind its cursor, or the kept place
+-- the place up to which a watch lists all: so many after its cursor, or the kept place
 abbrev pub heartbeat : ℕ → ℕ → HeadsValue → ℕ
 heartbeat cursor limit v = min (cursor + limit) v.kept
 
@@ -39,7 +39,7 @@ HeadsGive cursor (Ok v) after = (FindsPlace (exact cursor) v cursor × (after �
     ⊎ ((IsNotKept (exact cursor) v × (after ≡ at_rest flush no_heads)) ⊎ ((e : Refusal) × IsRefused (exact cursor) v e × (after ≡ ended (refused e))))
 HeadsGive cursor (Err e) after = after ≡ ended (refused e)
 
--- behind a flush it asks for heads again
+-- after a flush it asks for heads again
 abbrev pub FlushGives : Result (Unit {0}) Refusal → WatchView → Type 0
 FlushGives (Ok done) after = after ≡ at_rest heads no_heads
 FlushGives (Err e) after = after ≡ ended (refused e)

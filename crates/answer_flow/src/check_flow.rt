@@ -78,7 +78,7 @@ impl CheckFlow {
     }
 }
 
-/// Where memory is refused it ends with `NoMemory`.
+/// If memory is refused it ends with `NoMemory`.
 impl Flow for CheckFlow {
     type Out = CheckCall;
 

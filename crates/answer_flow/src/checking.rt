@@ -40,7 +40,7 @@ pub(crate) fn shard_to_ask(userset: &Userset, shards: Shards) -> u8
     shard_of(&userset.object, shards)
 }
 
-// The shard of the first that waits is brought up to the place. Where none waits the user is no member.
+// The shard of the first that waits is brought up to the place. If none waits the user is no member.
 fn bring_up(asked: &AskedCheck, place: u64, walk: Walk) -> Progress<Ready, CheckEnd>
     ensures none { walk.waiting ≡ [] → view_of result ≡ ended (checked place false) }
     ensures more { walk.waiting ≢ [] → view_of result ≡ at_rest to_catch_up (holding_walk walk (Some place) None) }

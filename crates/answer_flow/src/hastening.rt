@@ -15,7 +15,7 @@ use crate::read_phase;
 use calls::Progress;
 use names::CallName;
 
-// Where a shard is to be brought up it is read.
+// If a shard is to be brought up it is read.
 fn read_for_check(
     asked: &AskedCheck,
     ready: check_phase::Ready,
@@ -49,8 +49,8 @@ fn read(ready: read_phase::Ready) -> read_phase::Ready
 }
 
 impl CheckFlow {
-    /// Where a shard is to be asked next how far it has learned, it is read at once: one that has not learned so far answers that too. Where memory is
-    /// refused the check ends with `NoMemory`. Where another call is next, nothing is changed.
+    /// If a shard is to be asked next how far it has learned, it is read at once: one that has not learned so far answers that too. If memory is
+    /// refused the check ends with `NoMemory`. If another call is next, nothing is changed.
     pub fn read_at_once(self) -> Progress<CheckFlow, CheckDone>
         ensures asked { IsAsked self.shards self.fresh self.user result }
         ensures hastens { HastensCheck (seen_of_check self) (seen_after result) }
@@ -72,7 +72,7 @@ impl CheckFlow {
 }
 
 impl ReadFlow {
-    /// Where a shard is to be asked next how far it has learned, it reads at once: one that has not learned so far answers that too. Where another call is
+    /// If a shard is to be asked next how far it has learned, it reads at once: one that has not learned so far answers that too. If another call is
     /// next, nothing is changed.
     pub fn read_at_once(self) -> ReadFlow
         ensures asked { result ≡ record self { next = result.next; holds = result.holds; next_name = result.next_name } }

@@ -7,7 +7,7 @@ ghost use Rattle.answer_flow.specs.Merges.{TakesLast};
 use std::alloc::{AllocError, Global};
 use tuples::Tuple;
 
-/// The rows of both, ascending where both are. It looks at each row once.
+/// The rows of both, ascending if both are. It looks at each row once.
 pub(crate) fn merge(
     alloc: Global,
     mut left: Vec<Tuple>,

@@ -13,7 +13,7 @@ use tuples::{Freshness, Shards, Tupleset};
 
 impl ReadFlow {
     /// To read these tuplesets at a place that is known to be kept. It asks the coordinator for nothing: the first shard that it needs is brought up to
-    /// the place. Where memory is refused it has ended with `NoMemory`.
+    /// the place. If memory is refused it has ended with `NoMemory`.
     pub fn at(
         alloc: Global,
         shards: Shards,

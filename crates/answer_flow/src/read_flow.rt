@@ -90,7 +90,7 @@ impl ReadFlow {
     }
 }
 
-/// Where memory is refused it ends with `NoMemory`.
+/// If memory is refused it ends with `NoMemory`.
 impl Flow for ReadFlow {
     type Out = ReadCall;
 

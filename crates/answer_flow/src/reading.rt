@@ -54,7 +54,7 @@ fn bring_up(asked: &AskedRead, gathered: Gathered, set: Boxed<Tupleset>) -> Prog
     Progress::Next(Ready::CatchUp(gathered, set, catch_up))
 }
 
-/// The next tupleset; behind the last one it ends.
+/// The next tupleset; after the last one it ends.
 pub(crate) fn go_on(
     asked: &AskedRead,
     place: u64,
@@ -162,7 +162,7 @@ fn asks_all(set: &Boxed<Tupleset>) -> bool
     }
 }
 
-// The rows of one shard more; behind the last shard the tupleset is done.
+// The rows of one shard more; after the last shard the tupleset is done.
 fn gather_more(
     asked: &AskedRead,
     gathered: Gathered,

@@ -12,7 +12,7 @@ use std::alloc::Global;
 use std::marker::Model;
 use tuples::Namespace;
 
-/// A watch on its way: `heads`, until the cursor is kept, and the decisions behind it. It holds nothing that has to be spent, so who cancels it drops it.
+/// A watch on its way: `heads`, until the cursor is kept, and the decisions after it. It holds nothing that has to be spent, so who cancels it drops it.
 #[derive(Drop)]
 #[must_use]
 pub struct WatchFlow {
@@ -53,7 +53,7 @@ impl Model for WatchCall {
 }
 
 impl WatchFlow {
-    /// The changes in these namespaces behind a place, of so many places at most.
+    /// The changes in these namespaces after a place, of so many places at most.
     pub fn new(alloc: Global, cursor: u64, limit: u64, namespaces: Vec<Namespace>) -> WatchFlow
         ensures { result ≡ record { cursor = cursor; limit = limit; namespaces = namespaces.items; next = heads; holds = no_heads } }
     {
@@ -69,7 +69,7 @@ impl WatchFlow {
     }
 }
 
-/// Where memory is refused it ends with `NoMemory`.
+/// If memory is refused it ends with `NoMemory`.
 impl Flow for WatchFlow {
     type Out = WatchCall;
 

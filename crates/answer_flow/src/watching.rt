@@ -64,7 +64,7 @@ fn flushed(answer: Result<(), Refusal>) -> Progress<Ready, WatchEnd>
     }
 }
 
-// The decisions behind the cursor have come.
+// The decisions after the cursor have come.
 fn fetched(
     asked: &AskedWatch,
     heads: Heads,

@@ -15,7 +15,7 @@ const NAME: &str = "bench.log";
 // A body of 100 bytes between the four of its length and one of its gate.
 const BUFFER: usize = 105;
 
-/// How many appends the words after the program's name ask for, where they ask for this measure.
+/// How many appends the words after the program's name ask for, if they ask for this measure.
 pub(crate) fn count_of(words: &[String]) -> Option<u32> {
     match words {
         [_, name, count] => {

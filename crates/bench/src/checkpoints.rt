@@ -9,8 +9,8 @@ use std::rt::Clock;
 use tuples::Refusal;
 
 /// Opens a shard over the records of so many writes of one touch, each of a tuple of its own, and prints how long three steps take: its checkpoint
-/// (`checkpoint`, whose answer is how many bytes the bank then has), the same once more into the other bank (`again`), and an opening behind them
-/// (`behind`, whose answer is the place that was learned). The disks are in memory, so a sync takes no time.
+/// (`checkpoint`, whose answer is how many bytes the bank then has), the same once more into the other bank (`again`), and an opening after them
+/// (`after`, whose answer is the place that was learned). The disks are in memory, so a sync takes no time.
 pub(crate) fn measure(
     rt: &(impl Clock + Eprint),
     alloc: Global,

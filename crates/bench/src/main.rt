@@ -1,7 +1,7 @@
 //! Measures of the store's parts, those of its nodes here, which `bench/run` at the top sets beside the same in plain Rust.
 //!
 //! Keeps: what a measure runs is what the other crates prove.
-//! Never: measures anything without arguments, where it says which measures there are and ends.
+//! Never: measures anything without arguments: then it says which measures there are and ends.
 //! Callers rely on: each line on standard error is a name, how much was done, the nanoseconds, and what it answered.
 //!
 //! Start at `measure.rt`, what can be asked for; `writes.rt` has the three measures that take writes through a coordinator and its shard. Those of values and tables
@@ -26,7 +26,7 @@ use std::rt::Runtime;
 use std::sync::Wait;
 use std::thread::Threads;
 
-// The status where the words name no measure, or a measure failed.
+// The status if the words name no measure, or a measure failed.
 const FAILED: u8 = 1;
 
 fn main(rt: HostRuntime) -> ExitCode {

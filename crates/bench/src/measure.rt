@@ -98,7 +98,7 @@ fn find(measures: &[(&str, Measure)], word: &str) -> Option<Measure> {
 }
 
 impl Measure {
-    /// What the words after the program's name ask for: a name, and a count where the measure takes one, from 1 on but for writes in doubt.
+    /// What the words after the program's name ask for: a name, and a count if the measure takes one, from 1 on but for writes in doubt.
     pub(crate) fn read(words: &[String]) -> Option<(Measure, u32)> {
         match words {
             [_, name] => Some((find(UNCOUNTED, name.as_str())?, 0)),

@@ -15,7 +15,7 @@ use Rattle.calling.specs.Sent.{IsAskedAgain, IsPassing, answer_bytes, answers_by
 use Rattle.calling.specs.declared.answer.Answered.{Answered}
 use Rattle.calling.specs.declared.kind.Kind.{Kind}
 
--- The line was sent so many times, and each answer to it was read and was one behind which it may be sent again.
+-- The line was sent so many times, and each answer to it was read and was one after which it may be sent again.
 pub record HasAsked (count : ℕ) (kind : Kind) (line : List ℕ) (in_before in_now out_before out_now : Option (List ℕ)) : Type 0 where
   pub earlier : List Answered
   pub counted : length earlier ≡ count

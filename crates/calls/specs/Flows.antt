@@ -6,8 +6,3 @@ use Rattle.calls.specs.declared.progress.Progress.TheVariants.{Next, Ended}
 abbrev pub IfNext : {F E : Type 0} → Progress F E → (F → Type 0) → Type 0
 IfNext (Next later) P = P later
 IfNext (Ended end) P = Unit {0}
-
--- this is so of it if it goes on, and that of its end
-abbrev pub IsThen : {F E : Type 0} → (F → Type 0) → (E → Type 0) → Progress F E → Type 0
-IsThen P Q (Next later) = P later
-IsThen P Q (Ended end) = Q end

@@ -9,7 +9,7 @@
 //!
 //! A node may lend its devices for a flush and take them back (`Node::lend`, `Node::land`). The nodes of a server do so.
 //!
-//! Start at `specs/Asking.antt`, what may be asked and what is answered; then `Flow` and `Running`, which are all that a driver of flows has to know of one.
+//! Start at `specs/Asking.antt`, what may be asked and what is answered; then `Flow`, which is all that a driver of flows has to know of one.
 #![tactic(auto)]
 
 mod asking;
@@ -23,7 +23,6 @@ mod looking;
 mod node;
 mod progress;
 mod reply;
-mod running;
 mod told;
 
 pub use asking::{ask, refuse};
@@ -36,5 +35,4 @@ pub use looking::look;
 pub use node::Node;
 pub use progress::Progress;
 pub use reply::{CoordinatorReply, Reply, ShardReply};
-pub use running::Running;
 pub use told::Told;

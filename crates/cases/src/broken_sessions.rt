@@ -13,7 +13,13 @@ struct Fake {
 }
 
 impl Answers for Fake {
+    ghost store = { 1 };
+
     ghost gives = { λ a request reply b. Unit {0} };
+
+    fn store_id(&self) -> u64 {
+        1
+    }
 
     fn write(&mut self, _write: Write) -> Result<Written, Refusal> {
         self.place = self.place.saturating_add(1);
@@ -117,7 +123,7 @@ fn serve(
         taken: Vec::new(alloc),
         room,
     };
-    let served = serve_stream(alloc, 1, &mut reader, &mut writer, &mut Fake { place: 0 });
+    let served = serve_stream(alloc, &mut reader, &mut writer, &mut Fake { place: 0 });
     let taken = writer.taken.as_slice();
     let is_beginning = whole.starts_with(taken) && taken.len() == room.min(all);
     (served.is_ok(), is_beginning)

@@ -1,8 +1,7 @@
--- A flow begins: what was begun runs, and the others run as before.
+-- A flow begins: what was begun is of the store, as the others are.
 use Rattle.std.proofs.Common.{◌≡◌, ◌↔◌, ℕ, Bool, true, List, Option, Result, Ok, Err, OnErr, OnOk, IsTrue, refl, subst, sym}
 use Rattle.std.specs.declared.alloc.AllocError.{AllocError}
 use Rattle.slab.specs.Slab.{Slab}
-use Rattle.names.specs.declared.call_name.CallName.TheVariants as names
 use Rattle.names.specs.declared.care.Care.{Care}
 use Rattle.names.specs.declared.care.Care.TheVariants as cares
 use Rattle.names.specs.declared.node_name.NodeName.TheVariants.{Coordinator, Shard}
@@ -11,28 +10,29 @@ use Rattle.cluster.specs.declared.flow.Flow.{Flow}
 use Rattle.tuples.specs.declared.request.Request.{Request}
 use Rattle.tuples.specs.declared.request.Request.TheVariants.{Write, Read, Check, Watch}
 use Rattle.cluster.specs.Begun.{MayCare, begun_for, caring_for}
-use Rattle.cluster.specs.Kept.{AreFlows, IsRunning}
+use Rattle.cluster.specs.Flows.{IsOf}
+use Rattle.cluster.specs.Kept.{AreFlows}
 use Rattle.cluster.specs.Steps.{AddsFlow}
 use Rattle.cluster.proofs.Slots.{keeps_flow}
 
-pub request_runs : (shards : ℕ) (request : Request) → IsRunning shards (begun_for shards request)
-request_runs shards (Write write) = record { of = refl; goes_on = refl }
-request_runs shards (Read fresh sets) = record { of = refl; goes_on = refl }
-request_runs shards (Check fresh tuple) = record { of = refl; goes_on = refl }
-request_runs shards (Watch cursor limit names) = record { of = tt; goes_on = refl }
+pub request_of : (shards : ℕ) (request : Request) → IsOf shards (begun_for shards request)
+request_of shards (Write write) = refl
+request_of shards (Read fresh sets) = refl
+request_of shards (Check fresh tuple) = refl
+request_of shards (Watch cursor limit names) = tt
 
-pub care_runs : (shards : ℕ) (care : Care) → MayCare shards care → IsRunning shards (caring_for shards care)
-care_runs shards (cares.Flush Coordinator) may = record { of = tt; goes_on = refl }
-care_runs shards (cares.Flush (Shard s)) may = record { of = may; goes_on = refl }
-care_runs shards (cares.Checkpoint Coordinator) may = record { of = tt; goes_on = refl }
-care_runs shards (cares.Checkpoint (Shard s)) may = record { of = may; goes_on = refl }
-care_runs shards (cares.Learn s) may = record { of = may; goes_on = refl }
-care_runs shards (cares.Resolve s) may = record { of = may; goes_on = refl }
-care_runs shards (cares.Raise place) may = record { of = refl; goes_on = refl }
-care_runs shards (cares.Collect s) may = record { of = may; goes_on = refl }
+pub care_of : (shards : ℕ) (care : Care) → MayCare shards care → IsOf shards (caring_for shards care)
+care_of shards (cares.Flush Coordinator) may = tt
+care_of shards (cares.Flush (Shard s)) may = may
+care_of shards (cares.Checkpoint Coordinator) may = tt
+care_of shards (cares.Checkpoint (Shard s)) may = may
+care_of shards (cares.Learn s) may = may
+care_of shards (cares.Resolve s) may = may
+care_of shards (cares.Raise place) may = refl
+care_of shards (cares.Collect s) may = may
 
-pub adds_keep : (shards : ℕ) (old new : List (Option Flow)) (flow : Flow) (told : Option What) → AddsFlow old flow told new → IsRunning shards flow → AreFlows shards old → AreFlows shards new
-adds_keep shards old new flow told adds runs all = keeps_flow shards old new adds.slot flow adds.puts all runs
+pub adds_keep : (shards : ℕ) (old new : List (Option Flow)) (flow : Flow) (told : Option What) → AddsFlow old flow told new → IsOf shards flow → AreFlows shards old → AreFlows shards new
+adds_keep shards old new flow told adds of all = keeps_flow shards old new adds.slot flow adds.puts all of
 
 -- a slab with more room has the same flows
 pub added : (old room : Slab Flow) (flow is : Flow) (told : Option What) (new : List (Option Flow)) → room ≡ record old { capacity = room.capacity } → is ≡ flow → AddsFlow room.slots is told new → AddsFlow old.slots flow told new

@@ -15,7 +15,6 @@ use Rattle.calls.specs.declared.reply.Reply.{Reply}
 use Rattle.cluster.specs.declared.flow.Flow.{Flow}
 use Rattle.cluster.specs.declared.flow.Flow.TheVariants.{Write, Read, Check, Watch, Care}
 use Rattle.cluster.specs.Nodes.{AnsweredBy, Called, IsSetIn}
-use Rattle.cluster.specs.Turns.{Turns}
 use Rattle.cluster.specs.declared.event.What.{What}
 use Rattle.cluster.specs.Steps.{Makes, SlotTurns}
 use Rattle.cluster.specs.Worlds.{flow_at, index_of, node_at}
@@ -28,17 +27,12 @@ module _ {D : Type 0} (state : D → State) (honest : D → Type 0) (moment : D 
       by_node None h = ap length h.0
       by_node (Some was) h = ap length h.new_is ∙ length-set old (index_of (node_of call)) h.is
 
-  pub as_many : (shards : ℕ) (old : List (NodeView D)) (flow : Flow) (new : List (NodeView D)) (later : Flow) → Turns state honest moment left_since shards old flow new later → length new ≡ length old
-  as_many shards old (Write flow) new (Write later) t = called shards old new t.call t.reply t.called
-  as_many shards old (Care flow) new (Care later) t = called shards old new t.call t.reply t.called
-  as_many shards old flow new later t = absurd t
-
-  made_as_many : (shards : ℕ) (old : List (NodeView D)) (flow : Flow) (new : List (NodeView D)) (after : Progress Flow (Option What)) → Makes state honest moment left_since shards old flow new after → length new ≡ length old
-  made_as_many shards old (Write flow) new after t = as_many shards old (Write flow) new t.0 t.1
-  made_as_many shards old (Read flow) new after t = called shards old new t.1.call t.1.reply t.1.called
-  made_as_many shards old (Check flow) new after t = called shards old new t.1.call t.1.reply t.1.called
-  made_as_many shards old (Watch flow) new after t = called shards old new t.1.call t.1.reply t.1.called
-  made_as_many shards old (Care flow) new after t = as_many shards old (Care flow) new t.0 t.1
+  as_many : (shards : ℕ) (old : List (NodeView D)) (flow : Flow) (new : List (NodeView D)) (after : Progress Flow (Option What)) → Makes state honest moment left_since shards old flow new after → length new ≡ length old
+  as_many shards old (Write flow) new after t = called shards old new t.1.call t.1.reply t.1.called
+  as_many shards old (Read flow) new after t = called shards old new t.1.call t.1.reply t.1.called
+  as_many shards old (Check flow) new after t = called shards old new t.1.call t.1.reply t.1.called
+  as_many shards old (Watch flow) new after t = called shards old new t.1.call t.1.reply t.1.called
+  as_many shards old (Care flow) new after t = called shards old new t.1.call t.1.reply t.1.called
 
   pub slot_turned : (shards : ℕ) (old : List (NodeView D)) (flows : List (Option Flow)) (slot : ℕ) (told : Option What) (new : List (NodeView D)) (later : List (Option Flow))
       → MatchOption (flow_at flows slot) ((told ≡ None) × (new ≡ old) × (later ≡ flows)) (λ flow. SlotTurns state honest moment left_since shards old flows slot flow told new later) → length new ≡ length old
@@ -46,7 +40,7 @@ module _ {D : Type 0} (state : D → State) (honest : D → Type 0) (moment : D 
     where
       by_flow : (here : Option Flow) → MatchOption here ((told ≡ None) × (new ≡ old) × (later ≡ flows)) (λ flow. SlotTurns state honest moment left_since shards old flows slot flow told new later) → length new ≡ length old
       by_flow None h = ap length h.1
-      by_flow (Some flow) h = made_as_many shards old flow new h.after h.turns
+      by_flow (Some flow) h = as_many shards old flow new h.after h.turns
 
 -- nor does a script that is set
 module _ {D : Type 0} (set : D → ℕ → Tear → Type 0) (state : D → State) (honest : D → Type 0) (moment : D → ℕ) (left_since : D → ℕ → List ℕ → Type 0) where

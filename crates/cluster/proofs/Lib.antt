@@ -7,4 +7,3 @@ pub mod Openings
 pub mod Stepping
 pub mod Counting
 pub mod Cancels
-pub mod Leaving

@@ -47,7 +47,7 @@ MayCare shards (any_care.Collect s) = s < shards
 -- the flow of a request before its first call
 abbrev pub begun_for : ℕ → Request → Flow
 begun_for shards (requests.Write write) = Write (record {
-  flow = record { shards = shards; seen = record { write = Some write; holds = nothing_begun; caught = None; flushed = false; awaited = None; ended = None }; next_name = Some names.Begin };
+  flow = record { shards = shards; write = Some write; holds = nothing_begun; caught = None; flushed = false; next_name = names.Begin };
   is_cancelled = false;
 })
 begun_for shards (requests.Read fresh sets) = Read (record { shards = shards; fresh = fresh; sets = sets.items; next = read_views.heads; holds = nothing_read; next_name = names.Heads })

@@ -10,12 +10,9 @@ use Rattle.answer_flow.specs.WatchViews.{WatchEnding, listed}
 use Rattle.answer_flow.specs.WatchViews as watch_views
 use Rattle.care_flow.specs.declared.end.CareEnd.{CareEnd}
 use Rattle.care_flow.specs.declared.end.CareEnd.TheVariants as care_ends
-use Rattle.care_flow.specs.Cares.{TellsOfEach, end_of}
 use Rattle.cluster.specs.declared.event.Answer.TheVariants as answers
 use Rattle.cluster.specs.declared.event.What.{What}
 use Rattle.cluster.specs.declared.event.What.TheVariants.{Ended, Refused}
-use Rattle.cluster.specs.declared.flow.Flow.{Flow}
-use Rattle.cluster.specs.declared.flow.Flow.TheVariants.{Write, Read, Check, Watch, Care}
 
 -- a write has a place, or was refused; nothing is reported of one that was cancelled
 abbrev pub TellsWrite : WriteEnd → Option What → Type 0
@@ -45,16 +42,3 @@ abbrev pub TellsCare : CareEnd → Option What → Type 0
 TellsCare care_ends.Done told = told ≡ Some (Ended answers.Done)
 TellsCare (care_ends.Resolved found) told = told ≡ Some (Ended (answers.Resolved found))
 TellsCare (care_ends.Refused e) told = told ≡ Some (Refused e)
-
--- what is reported of a flow that ended so; nothing, if it has not ended
-abbrev pub IfEnded : {E : Type 0} → (E → Option What → Type 0) → Option E → Option What → Type 0
-IfEnded P None told = told ≡ None
-IfEnded P (Some end) told = P end told
-
--- This is reported of it, by how it ended; a resolution reports on each write that was in doubt, in their order.
-abbrev pub EndsWith : Flow → Option What → Type 0
-EndsWith (Write w) told = IfEnded TellsWrite w.flow.seen.ended told
-EndsWith (Read v) told = ⊥
-EndsWith (Check v) told = ⊥
-EndsWith (Watch v) told = ⊥
-EndsWith (Care v) told = IfEnded TellsCare (end_of v) told × TellsOfEach v (end_of v)

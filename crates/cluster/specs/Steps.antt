@@ -10,6 +10,10 @@ use Rattle.answer_flow.specs.WatchViews.{WatchFlowValue, ending_of as watch_endi
 use Rattle.answer_flow.specs.declared.check_phase.CheckDone.{CheckDone}
 use Rattle.answer_flow.specs.declared.read_phase.ReadDone.{ReadDone}
 use Rattle.answer_flow.specs.declared.watch_phase.WatchEnd.{WatchEnd}
+use Rattle.care_flow.specs.declared.care.CareFlow.{CareFlow}
+use Rattle.care_flow.specs.declared.end.CareEnd.{CareEnd}
+use Rattle.commit_flow.specs.Flows.{WriteFlowValue}
+use Rattle.commit_flow.specs.declared.end.WriteEnd.{WriteEnd}
 use Rattle.calls.specs.Opening.{refusal_of}
 use Rattle.calls.specs.Views.{NodeView, devices_of}
 use Rattle.calls.specs.declared.progress.Progress.{Progress}
@@ -20,15 +24,15 @@ use Rattle.cluster.specs.declared.event.Event.{Event}
 use Rattle.cluster.specs.declared.event.What.{What}
 use Rattle.cluster.specs.declared.event.What.TheVariants.{Began, Next, Up, Refused}
 use Rattle.cluster.specs.declared.flow.Flow.{Flow}
-use Rattle.cluster.specs.declared.flow.Flow.TheVariants.{Read, Check, Watch}
+use Rattle.cluster.specs.declared.flow.Flow.TheVariants.{Write, Read, Check, Watch, Care}
 use Rattle.cluster.specs.declared.step.Step.{Step}
 use Rattle.cluster.specs.declared.step.Step.TheVariants.{Start, Turn, Cancel, Care as care_for, Restart}
 use Rattle.cluster.specs.Begun.{IsInLimits, MayCare, begun_for, caring_for}
-use Rattle.cluster.specs.Ends.{EndsWith, TellsCheck, TellsRead, TellsWatch}
-use Rattle.cluster.specs.Flows.{IsNamed, is_cancelled, next_name_of}
+use Rattle.cluster.specs.Ends.{TellsCare, TellsCheck, TellsRead, TellsWatch, TellsWrite}
+use Rattle.cluster.specs.Flows.{IsNamed, is_cancelled}
 use Rattle.cluster.specs.Cancels.{Cancels}
 use Rattle.cluster.specs.Nodes.{Reopened}
-use Rattle.cluster.specs.Turns.{Turns, TurnsCheck, TurnsRead, TurnsWatch}
+use Rattle.cluster.specs.Turns.{TurnsCare, TurnsCheck, TurnsRead, TurnsWatch, TurnsWrite}
 use Rattle.cluster.specs.Worlds.{Puts, WorldView, flow_at, flow_count, index_of, node_at}
 
 -- nothing is reported of a flow that was cancelled
@@ -61,33 +65,11 @@ pub record Begins (old : List (Option Flow)) (may : Type 0) (flow : Flow) (told 
   pub begins : may → flow_count old < max_flows → AddsFlow old flow told new
 
 -- A flow goes on in its slot, and its next call is reported.
-pub record GoesOn (old : List (Option Flow)) (slot : ℕ) (later : Flow) (name : CallName) (told : Option What) (new : List (Option Flow)) : Type 0 where
+pub record GoesOn (old : List (Option Flow)) (slot : ℕ) (later : Flow) (told : Option What) (new : List (Option Flow)) : Type 0 where
+  pub name : CallName
+  pub named : IsNamed later name
   pub puts : Puts old slot (Some later) new
   pub tells : told ≡ unless (is_cancelled later) (Some (Next name))
-
--- It makes no more calls: how it ended is reported, and its slot is free.
-pub record HasGone (old : List (Option Flow)) (slot : ℕ) (later : Flow) (told : Option What) (new : List (Option Flow)) : Type 0 where
-  pub end : Option What
-  pub ends : EndsWith later end
-  pub puts : Puts old slot None new
-  pub tells : told ≡ unless (is_cancelled later) end
-
--- After its turn a flow goes on if a call of it comes next, and is gone if none does.
-pub record Leaves (old : List (Option Flow)) (slot : ℕ) (later : Flow) (told : Option What) (new : List (Option Flow)) : Type 0 where
-  pub named : IsNamed later
-  pub leaves : MatchOption (next_name_of later) (HasGone old slot later told new) (λ name. GoesOn old slot later name told new)
-
--- It makes no more calls, and was not cancelled: this is reported.
-pub record HasEnded (later : Flow) (told : Option What) : Type 0 where
-  pub named : IsNamed later
-  pub unnamed : next_name_of later ≡ None
-  pub ends : EndsWith later told
-  pub heard : is_cancelled later ≡ false
-
--- what its turn has left of a flow: itself, or what is reported of its end
-abbrev pub IsLeft : Flow → Progress Flow (Option What) → Type 0
-IsLeft later (made.Next flow) = later ≡ flow
-IsLeft later (made.Ended told) = HasEnded later told
 
 -- what a turn has made of a flow of a kind: it waits for its next turn, or this is reported of its end
 abbrev pub IsMade : {V E : Type 0} → (V → Flow) → (E → Option What → Type 0) → Progress V E → Progress Flow (Option What) → Type 0
@@ -95,9 +77,17 @@ IsMade kind tells (made.Next later) (made.Next flow) = flow ≡ kind later
 IsMade kind tells (made.Ended end) (made.Ended told) = tells end told
 IsMade kind tells turned after = ⊥
 
--- what is left in a slot then
+-- nothing is reported of the end of a write that was cancelled
+abbrev pub TellsWriting : Bool → WriteEnd → Option What → Type 0
+TellsWriting is_cancelled end told = (what : Option What) × TellsWrite end what × (told ≡ unless is_cancelled what)
+
+-- a write stays cancelled, or not
+abbrev pub write_of : Bool → WriteFlowValue → Flow
+write_of is_cancelled flow = Write (record { flow = flow; is_cancelled = is_cancelled })
+
+-- what is left in a slot then: the flow, or none, and how it ended is reported
 abbrev pub LeavesSlot : List (Option Flow) → ℕ → Progress Flow (Option What) → Option What → List (Option Flow) → Type 0
-LeavesSlot old slot (made.Next later) told new = Leaves old slot later told new
+LeavesSlot old slot (made.Next later) told new = GoesOn old slot later told new
 LeavesSlot old slot (made.Ended end) told new = Puts old slot None new × (told ≡ end)
 
 -- the flow in this slot is cancelled, and is left in it or not
@@ -109,10 +99,11 @@ pub record SlotCancels (old : List (Option Flow)) (slot : ℕ) (flow : Flow) (ne
 module _ {D : Type 0} (state : D → State) (honest : D → Type 0) (moment : D → ℕ) (left_since : D → ℕ → List ℕ → Type 0) where
   -- what a turn makes of a flow, by its kind
   abbrev pub Makes : ℕ → List (NodeView D) → Flow → List (NodeView D) → Progress Flow (Option What) → Type 0
+  Makes shards old (Write w) new after = (turned : Progress WriteFlowValue WriteEnd) × TurnsWrite state honest moment left_since shards old w.flow new turned × IsMade (write_of w.is_cancelled) (TellsWriting w.is_cancelled) turned after
   Makes shards old (Read v) new after = (turned : Progress ReadFlowValue ReadDone) × TurnsRead state honest moment left_since shards old v new turned × IsMade Read (λ done. TellsRead (read_ending done.end)) turned after
   Makes shards old (Check v) new after = (turned : Progress CheckFlowValue CheckDone) × TurnsCheck state honest moment left_since shards old v new turned × IsMade Check (λ done. TellsCheck (check_ending done.end)) turned after
   Makes shards old (Watch v) new after = (turned : Progress WatchFlowValue WatchEnd) × TurnsWatch state honest moment left_since shards old v new turned × IsMade Watch (λ end. TellsWatch (watch_ending end)) turned after
-  Makes shards old flow new after = (later : Flow) × Turns state honest moment left_since shards old flow new later × IsLeft later after
+  Makes shards old (Care v) new after = (turned : Progress CareFlow CareEnd) × TurnsCare state honest moment left_since shards old v new turned × IsMade Care TellsCare turned after
 
   -- the flow in this slot makes its turn, and is left in it or not
   pub record SlotTurns (shards : ℕ) (old : List (NodeView D)) (old_flows : List (Option Flow)) (slot : ℕ) (flow : Flow) (told : Option What) (new : List (NodeView D)) (new_flows : List (Option Flow)) : Type 0 where

@@ -8,17 +8,18 @@ use Rattle.answer_flow.specs.Running.{AsksCheck, AsksRead, AsksWatch, GivesCheck
 use Rattle.answer_flow.specs.declared.check_phase.CheckDone.{CheckDone}
 use Rattle.answer_flow.specs.declared.read_phase.ReadDone.{ReadDone}
 use Rattle.answer_flow.specs.declared.watch_phase.WatchEnd.{WatchEnd}
-use Rattle.care_flow.specs.Cares.{AsksCare, GivesCare}
+use Rattle.care_flow.specs.Cares.{AsksCare, MakesCare, while_out}
+use Rattle.care_flow.specs.declared.care.CareCall.{CareCall}
 use Rattle.care_flow.specs.declared.care.CareFlow.{CareFlow}
+use Rattle.care_flow.specs.declared.end.CareEnd.{CareEnd}
+use Rattle.commit_flow.specs.Flows.{WriteFlowValue}
+use Rattle.commit_flow.specs.Running.{AsksWrite, GivesWrite}
+use Rattle.commit_flow.specs.declared.end.WriteEnd.{WriteEnd}
 use Rattle.calls.specs.Fitting.{FitsItsTypes, IsWhole}
 use Rattle.calls.specs.Views.{NodeView}
 use Rattle.calls.specs.declared.call.NodeCall.{NodeCall}
 use Rattle.calls.specs.declared.progress.Progress.{Progress}
 use Rattle.calls.specs.declared.reply.Reply.{Reply}
-use Rattle.cluster.specs.declared.flow.Flow.{Flow}
-use Rattle.cluster.specs.declared.flow.Flow.TheVariants.{Write, Care}
-use Rattle.cluster.specs.declared.flow.Writing.{Writing}
-use Rattle.cluster.specs.Flows.{AsksWrite, GivesWrite}
 use Rattle.cluster.specs.Nodes.{Called}
 
 module _ {D : Type 0} (state : D → State) (honest : D → Type 0) (moment : D → ℕ) (left_since : D → ℕ → List ℕ → Type 0) where
@@ -33,7 +34,7 @@ module _ {D : Type 0} (state : D → State) (honest : D → Type 0) (moment : D 
     pub called : Called state honest moment left_since shards old call reply new
     pub given : gives out reply later
 
-  abbrev pub TurnsWrite : ℕ → List (NodeView D) → Writing → List (NodeView D) → Writing → Type 0
+  abbrev pub TurnsWrite : ℕ → List (NodeView D) → WriteFlowValue → List (NodeView D) → Progress WriteFlowValue WriteEnd → Type 0
   TurnsWrite = TurnsBy AsksWrite GivesWrite
 
   abbrev pub TurnsRead : ℕ → List (NodeView D) → ReadFlowValue → List (NodeView D) → Progress ReadFlowValue ReadDone → Type 0
@@ -45,11 +46,5 @@ module _ {D : Type 0} (state : D → State) (honest : D → Type 0) (moment : D 
   abbrev pub TurnsWatch : ℕ → List (NodeView D) → WatchFlowValue → List (NodeView D) → Progress WatchFlowValue WatchEnd → Type 0
   TurnsWatch = TurnsBy AsksWatch GivesWatch
 
-  abbrev pub TurnsCare : ℕ → List (NodeView D) → CareFlow → List (NodeView D) → CareFlow → Type 0
-  TurnsCare = TurnsBy AsksCare GivesCare
-
-  -- The turn of a write or a care, which stays one.
-  abbrev pub Turns : ℕ → List (NodeView D) → Flow → List (NodeView D) → Flow → Type 0
-  Turns shards old (Write flow) new (Write later) = TurnsWrite shards old flow new later
-  Turns shards old (Care flow) new (Care later) = TurnsCare shards old flow new later
-  Turns shards old flow new later = ⊥
+  abbrev pub TurnsCare : ℕ → List (NodeView D) → CareFlow → List (NodeView D) → Progress CareFlow CareEnd → Type 0
+  TurnsCare = TurnsBy (λ (f : CareFlow) (call : NodeCall) (out : CareCall). AsksCare f call (while_out out)) MakesCare

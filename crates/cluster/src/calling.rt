@@ -1,8 +1,6 @@
 // One turn of a flow: its next call, at the node that the call names, and the reply.
-ghost use Rattle.std.specs.Prelude.{◌≡◌, true, is_some};
 ghost use Rattle.calls.specs.Flows.{IfNext};
 ghost use Rattle.cluster.specs.Flows.{IsOf};
-ghost use Rattle.cluster.specs.Kept.{IsRunning};
 ghost use Rattle.cluster.specs.Steps.{Makes};
 ghost use Rattle.cluster.specs.Turns.{TurnsBy};
 
@@ -10,25 +8,12 @@ use crate::asking::ask_at;
 use crate::ending::{told_of_care, told_of_check, told_of_read, told_of_watch};
 use crate::{Flow, What};
 use answer_flow::{CheckFlow, ReadFlow, WatchFlow};
-use calls::{Node, Progress, Running, Told};
+use calls::{Node, Progress, Told};
 use device::Device;
 use tuples::Shards;
 
-fn turn<F: Running, D: Device>(shards: Shards, nodes: &mut [Node<D>], told: &mut Told, flow: &mut F)
-    requires of { F.is_of shards flow.old }
-    requires goes_on { is_some (F.next_named flow.old) ≡ true }
-    ensures turns { TurnsBy D.state D.honest D.moment D.left_since F.asks F.gives shards nodes.old flow.old nodes.new flow.new }
-    ensures of { F.is_of shards flow.new }
-{
-    let Some(call) = flow.next_call() else {
-        return;
-    };
-    let reply = ask_at(shards, nodes, call, told);
-    flow.give(reply);
-}
-
-// The turn of a flow that it spends.
-fn spend<F: calls::Flow, D: Device>(
+/// Makes the flow's next call, at the node that it names, and gives it the reply.
+pub(crate) fn turn<F: calls::Flow, D: Device>(
     shards: Shards,
     nodes: &mut [Node<D>],
     told: &mut Told,
@@ -53,7 +38,7 @@ fn turn_read<D: Device>(
     ensures turns { Makes D.state D.honest D.moment D.left_since shards nodes.old (Flow.Read flow) nodes.new result }
     ensures of { IfNext result (IsOf shards) }
 {
-    match spend(shards, nodes, told, flow) {
+    match turn(shards, nodes, told, flow) {
         Progress::Next(flow) => Progress::Next(Flow::Read(flow)),
         Progress::Ended(done) => Progress::Ended(Some(told_of_read(done.end))),
     }
@@ -69,7 +54,7 @@ fn turn_check<D: Device>(
     ensures turns { Makes D.state D.honest D.moment D.left_since shards nodes.old (Flow.Check flow) nodes.new result }
     ensures of { IfNext result (IsOf shards) }
 {
-    match spend(shards, nodes, told, flow) {
+    match turn(shards, nodes, told, flow) {
         Progress::Next(flow) => Progress::Next(Flow::Check(flow)),
         Progress::Ended(done) => Progress::Ended(Some(told_of_check(done.end))),
     }
@@ -84,7 +69,7 @@ fn turn_watch<D: Device>(
     ensures turns { Makes D.state D.honest D.moment D.left_since shards nodes.old (Flow.Watch flow) nodes.new result }
     ensures of { IfNext result (IsOf shards) }
 {
-    match spend(shards, nodes, told, flow) {
+    match turn(shards, nodes, told, flow) {
         Progress::Next(flow) => Progress::Next(Flow::Watch(flow)),
         Progress::Ended(end) => Progress::Ended(Some(told_of_watch(end))),
     }
@@ -97,19 +82,16 @@ pub(crate) fn turn_flow<D: Device>(
     told: &mut Told,
     flow: Flow,
 ) -> Progress<Flow, Option<What>>
-    requires { IsRunning shards flow }
+    requires { IsOf shards flow }
     ensures turns { Makes D.state D.honest D.moment D.left_since shards nodes.old flow nodes.new result }
     ensures of { IfNext result (IsOf shards) }
 {
     match flow {
-        Flow::Write(mut writing) => {
-            turn(shards, nodes, told, &mut writing.flow);
-            Progress::Next(Flow::Write(writing))
-        }
+        Flow::Write(writing) => writing.turn(shards, nodes, told),
         Flow::Read(flow) => turn_read(shards, nodes, told, flow),
         Flow::Check(flow) => turn_check(shards, nodes, told, flow),
         Flow::Watch(flow) => turn_watch(shards, nodes, told, flow),
-        Flow::Care(flow) => match spend(shards, nodes, told, flow) {
+        Flow::Care(flow) => match turn(shards, nodes, told, flow) {
             Progress::Next(flow) => Progress::Next(Flow::Care(flow)),
             Progress::Ended(end) => Progress::Ended(Some(told_of_care(end))),
         },

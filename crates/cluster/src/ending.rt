@@ -1,17 +1,28 @@
 // What is reported of a flow that has ended.
-ghost use Rattle.std.specs.Prelude.{◌≡◌, Some, None};
+ghost use Rattle.std.specs.Prelude.{◌≡◌, Some};
 ghost use Rattle.answer_flow.specs.ReadViews.{ending_of as read_ending};
 ghost use Rattle.answer_flow.specs.CheckViews.{ending_of as check_ending};
 ghost use Rattle.answer_flow.specs.WatchViews.{ending_of as watch_ending};
-ghost use Rattle.cluster.specs.Ends.{EndsWith, IfEnded, TellsCare, TellsCheck, TellsRead, TellsWatch, TellsWrite};
-ghost use Rattle.cluster.specs.Flows.{next_name_of};
+ghost use Rattle.cluster.specs.Ends.{TellsCare, TellsCheck, TellsRead, TellsWatch, TellsWrite};
+ghost use Rattle.cluster.specs.Steps.{unless as unless_cancelled};
 
-use crate::{Answer, Flow, What, Writing};
+use crate::{Answer, What};
 use answer_flow::{CheckEnd, ReadEnd, WatchEnd};
 use care_flow::CareEnd;
 use commit_flow::WriteEnd;
 
-fn told_of_write(end: WriteEnd) -> Option<What>
+/// Nothing is reported of a flow that was cancelled.
+pub(crate) fn unless(is_cancelled: bool, told: Option<What>) -> Option<What>
+    ensures { result ≡ unless_cancelled is_cancelled told }
+{
+    if is_cancelled {
+        return None;
+    }
+    told
+}
+
+/// What is reported of a write that has ended; nothing of its cancel.
+pub(crate) fn told_of_write(end: WriteEnd) -> Option<What>
     ensures { TellsWrite end result }
 {
     match end {
@@ -59,28 +70,5 @@ pub(crate) fn told_of_care(end: CareEnd) -> What
         CareEnd::Done => What::Ended(Answer::Done),
         CareEnd::Resolved(found) => What::Ended(Answer::Resolved(found)),
         CareEnd::Refused(refusal) => What::Refused(refusal),
-    }
-}
-
-fn end_write(writing: Writing) -> Option<What>
-    ensures { IfEnded TellsWrite writing.flow.seen.ended result }
-{
-    told_of_write(writing.finish()?)
-}
-
-impl Flow {
-    /// What is reported of it, if it has ended; spends what it holds. Only a write has such an end: each other flow makes a call next.
-    pub(crate) fn finish(self) -> Option<What>
-        requires { next_name_of self ≡ None }
-        ensures { EndsWith self result }
-    {
-        match self {
-            Flow::Write(writing) => end_write(writing),
-            Flow::Read(_) | Flow::Check(_) | Flow::Watch(_) => unreachable!(),
-            Flow::Care(flow) => {
-                let _name = calls::Flow::next_name(&flow);
-                unreachable!()
-            }
-        }
     }
 }

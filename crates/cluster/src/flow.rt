@@ -1,12 +1,20 @@
 // The flows that run.
-ghost use Rattle.std.specs.Prelude.{◌≡◌, is_some};
-ghost use Rattle.cluster.specs.Cancels.{Cancels, CancelsWrite, left_of};
-ghost use Rattle.cluster.specs.Flows.{IsNamed, is_cancelled as is_cancelled_flow, next_name_of};
+ghost use Rattle.std.specs.Prelude.{◌≡◌};
+ghost use Rattle.calls.specs.Flows.{IfNext};
+ghost use Rattle.cluster.specs.Cancels.{Cancels};
+ghost use Rattle.cluster.specs.Flows.{IsNamed, IsOf, is_cancelled as is_cancelled_flow};
+ghost use Rattle.cluster.specs.Steps.{Makes};
 
+use crate::What;
+use crate::calling::turn;
+use crate::ending::{told_of_write, unless};
 use answer_flow::{CheckFlow, ReadFlow, WatchFlow};
+use calls::{Node, Progress, Told};
 use care_flow::CareFlow;
-use commit_flow::{WriteEnd, WriteFlow};
+use commit_flow::WriteFlow;
+use device::Device;
 use names::CallName;
+use tuples::Shards;
 
 /// A write on its way, and whether it was cancelled: then nothing more is reported of it.
 pub struct Writing {
@@ -25,25 +33,39 @@ pub enum Flow {
 }
 
 impl Writing {
-    /// How it ended, if it has; spends what it holds.
-    pub(crate) fn finish(self) -> Option<WriteEnd>
-        ensures { result ≡ self.flow.seen.ended }
+    /// Its turn; it stays cancelled, or not.
+    pub(crate) fn turn<D: Device>(
+        self,
+        shards: Shards,
+        nodes: &mut [Node<D>],
+        told: &mut Told,
+    ) -> Progress<Flow, Option<What>>
+        requires { IsOf shards (Flow.Write self) }
+        ensures turns { Makes D.state D.honest D.moment D.left_since shards nodes.old (Flow.Write self) nodes.new result }
+        ensures of { IfNext result (IsOf shards) }
+    {
+        let Writing { flow, is_cancelled } = self;
+        match turn(shards, nodes, told, flow) {
+            Progress::Next(flow) => Progress::Next(Flow::Write(Writing { flow, is_cancelled })),
+            Progress::Ended(end) => Progress::Ended(unless(is_cancelled, told_of_write(end))),
+        }
+    }
+
+    /// Cancels it: it goes out, or on to its end.
+    fn cancel(self) -> Option<Flow>
+        ensures { Cancels (Flow.Write self) result }
     {
         let Writing {
             flow,
             is_cancelled: _,
         } = self;
-        flow.finish()
-    }
-
-    /// Cancels it: it goes out, or on to its end. Returns whether a call of it comes next.
-    pub(crate) fn cancel(&mut self) -> bool
-        ensures cancels { CancelsWrite self.old self.new }
-        ensures goes_on { result ≡ is_some self.new.flow.next_name }
-    {
-        self.flow.cancel();
-        self.is_cancelled = true;
-        self.flow.next_name().is_some()
+        match flow.cancel() {
+            Progress::Next(flow) => Some(Flow::Write(Writing {
+                flow,
+                is_cancelled: true,
+            })),
+            Progress::Ended(_) => None,
+        }
     }
 }
 
@@ -54,22 +76,21 @@ impl Drop for Writing {
             flow,
             is_cancelled: _,
         } = self;
-        let _ = flow.finish();
+        flow.leave();
     }
 }
 
 impl Flow {
-    /// The name of its next call; none if it has ended.
-    pub(crate) fn next_name(&self) -> Option<CallName>
-        ensures name { result ≡ next_name_of self.now }
-        ensures named { IsNamed self.now }
+    /// The name of its next call.
+    pub(crate) fn next_name(&self) -> CallName
+        ensures { IsNamed self.now result }
     {
         match self {
-            Flow::Write(writing) => writing.flow.next_name(),
-            Flow::Read(flow) => Some(calls::Flow::next_name(flow)),
-            Flow::Check(flow) => Some(calls::Flow::next_name(flow)),
-            Flow::Watch(flow) => Some(calls::Flow::next_name(flow)),
-            Flow::Care(flow) => Some(calls::Flow::next_name(flow)),
+            Flow::Write(writing) => calls::Flow::next_name(&writing.flow),
+            Flow::Read(flow) => calls::Flow::next_name(flow),
+            Flow::Check(flow) => calls::Flow::next_name(flow),
+            Flow::Watch(flow) => calls::Flow::next_name(flow),
+            Flow::Care(flow) => calls::Flow::next_name(flow),
         }
     }
 
@@ -83,13 +104,13 @@ impl Flow {
         }
     }
 
-    /// Cancels it. Returns whether it goes on: a begun write does, on its way out or, if it is decided, to its end.
-    pub(crate) fn cancel(&mut self) -> bool
-        ensures { Cancels self.old (left_of result self.new) }
+    /// Cancels it. A begun write goes on, on its way out or, if it is decided, to its end; none is left of any other flow.
+    pub(crate) fn cancel(self) -> Option<Flow>
+        ensures { Cancels self result }
     {
         match self {
             Flow::Write(writing) => writing.cancel(),
-            Flow::Read(_) | Flow::Check(_) | Flow::Watch(_) | Flow::Care(_) => false,
+            Flow::Read(_) | Flow::Check(_) | Flow::Watch(_) | Flow::Care(_) => None,
         }
     }
 }

@@ -1,45 +1,31 @@
 // The turn of a flow in its slot.
 ghost use Rattle.std.specs.Prelude.{◌≡◌, None, MatchOption};
-ghost use Rattle.slab.specs.Slab.{HasRoomFor, get};
+ghost use Rattle.slab.specs.Slab.{HasRoomFor};
 ghost use Rattle.cluster.specs.Flows.{IsOf};
 ghost use Rattle.cluster.specs.Kept.{AreFlows};
-ghost use Rattle.cluster.specs.Steps.{Leaves, SlotTurns, unless as unless_cancelled};
+ghost use Rattle.cluster.specs.Steps.{GoesOn, SlotTurns};
 ghost use Rattle.cluster.specs.Worlds.{flow_at};
 
 use crate::calling::turn_flow;
+use crate::ending::unless;
 use crate::{Flow, What};
 use calls::{Node, Progress, Told};
 use device::Device;
 use slab::Slab;
 use tuples::Shards;
 
-fn unless(is_cancelled: bool, told: Option<What>) -> Option<What>
-    ensures { result ≡ unless_cancelled is_cancelled told }
-{
-    if is_cancelled {
-        return None;
-    }
-    told
-}
-
-// Puts a flow that was taken out back in its slot, or reports how it ended.
-fn leave(shards: Shards, flows: &mut Slab<Flow>, flow: Flow) -> Option<What>
+// Puts a flow that was taken out back in its slot.
+fn put_back(shards: Shards, flows: &mut Slab<Flow>, flow: Flow) -> Option<What>
     requires of { IsOf shards flow }
     requires room { HasRoomFor flows.old 1 }
-    requires free { get flows.old flows.old.vacant_key ≡ None }
     requires flows { AreFlows shards flows.old.slots }
-    ensures leaves { Leaves flows.old.slots flows.old.vacant_key flow result flows.new.slots }
+    ensures goes_on { GoesOn flows.old.slots flows.old.vacant_key flow result flows.new.slots }
     ensures kept { AreFlows shards flows.new.slots }
 {
-    let is_cancelled = flow.is_cancelled();
-    match flow.next_name() {
-        Some(name) => {
-            // The slot that was freed last is taken next.
-            let _slot = flows.insert_reserved(flow);
-            unless(is_cancelled, Some(What::Next(name)))
-        }
-        None => unless(is_cancelled, flow.finish()),
-    }
+    let (is_cancelled, name) = (flow.is_cancelled(), flow.next_name());
+    // The slot that was freed last is taken next.
+    let _slot = flows.insert_reserved(flow);
+    unless(is_cancelled, Some(What::Next(name)))
 }
 
 /// The turn of the flow in the slot, and what is reported of it.
@@ -57,7 +43,7 @@ pub(crate) fn turn<D: Device>(
 {
     let flow = flows.try_remove(slot)?;
     match turn_flow(shards, nodes, told, flow) {
-        Progress::Next(flow) => leave(shards, flows, flow),
+        Progress::Next(flow) => put_back(shards, flows, flow),
         Progress::Ended(told) => told,
     }
 }

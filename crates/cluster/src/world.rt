@@ -78,7 +78,7 @@ impl<D: Device> World<D> {
     pub fn next(&self, slot: usize) -> Option<CallName>
         ensures { MatchOption (flow_at self.now.flows slot) (result ≡ None) (λ flow. result ≡ next_name_of flow) }
     {
-        self.flows.get(slot)?.next_name()
+        Some(self.flows.get(slot)?.next_name())
     }
 
     /// Whether no flow runs.

@@ -1,5 +1,5 @@
 -- A node that a write flow calls has what it is owed, and its reply is one to the call that is out.
-use Rattle.std.proofs.Common.{◌≡◌, ◌∙◌, ℕ, true, List, Option, Some, None, Result, Ok, Err, IfOk, inl, inr, sym, ap, subst}
+use Rattle.std.proofs.Common.{◌≡◌, ◌∙◌, ℕ, true, List, Option, Some, None, MatchOption, Result, Ok, Err, IfOk, inl, inr, sym, ap, subst}
 use Rattle.tuples.specs.declared.entry.WriteId.{WriteId}
 use Rattle.tuples.specs.Parts.{takes_part}
 use Rattle.decisions.specs.Standing.{DecidedValue}
@@ -24,12 +24,21 @@ use Rattle.calls.specs.declared.reply.ShardReply.{ShardReply}
 use Rattle.calls.specs.declared.reply.ShardReply.TheVariants as told_by
 use Rattle.commit_flow.specs.Views.{WriteView}
 use Rattle.commit_flow.specs.Writing.{Asks, AsksCoordinator, AsksShard}
-use Rattle.commit_flow.specs.Answering.{IfBack, IsVoteOf, MayGive, RefusedBack}
+use Rattle.commit_flow.specs.Answering.{Fits, IfBack, IsVoteOf, RefusedBack}
+use Rattle.commit_flow.specs.Flows.{WriteCallValue, WriteFlowValue, seen_of, seen_out}
+use Rattle.commit_flow.specs.Running.{AsksWrite, AwaitsWrite}
 use Rattle.commit_flow.specs.Participants.{ArePartsOf}
 
-pub owed : (shards : ℕ) (v : WriteView) (call : NodeCall) (after : WriteView) → Asks shards v call after → IsOwed shards call
-owed shards v (Coordinator call) after h = h.0
-owed shards v (Shard s call) after h = h.0
+owed_of : (shards : ℕ) (v : WriteView) (call : NodeCall) (after : WriteView) → Asks shards v call after → IsOwed shards call
+owed_of shards v (Coordinator call) after h = h.0
+owed_of shards v (Shard s call) after h = h.0
+
+pub owed : (v : WriteFlowValue) (call : NodeCall) (out : WriteCallValue) (shards : ℕ) → AsksWrite v call out → v.shards ≡ shards → IsOwed shards call
+owed v call out shards asks of = subst (λ (n : ℕ). IsOwed n call) of (owed_of v.shards (seen_of v) call (seen_out out) asks.2)
+
+-- a call is out, and the reply is one to it
+abbrev MayGive : ℕ → WriteView → Reply → Type 0
+MayGive shards v reply = MatchOption v.awaited ⊥ (λ awaited. Fits shards v awaited reply)
 
 same_id : (held : Option WriteId) (x y : WriteId) → held ≡ Some x → held ≡ Some y → x ≡ y
 same_id held x y p q = cc
@@ -101,7 +110,10 @@ fits_shard shards s v (shard_calls.Collect heads) reply after may h b = absurd h
 fits_shard shards s v shard_calls.Checkpoint reply after may h b = absurd h
 fits_shard shards s v call reply after may h b = absurd b
 
-pub fits : (shards : ℕ) (v : WriteView) (call : NodeCall) (reply : Reply) (after : WriteView) → Asks shards v call after → IsReplyTo call reply → MayGive shards after reply
-fits shards v (Coordinator call) (from_coordinator reply) after h b = fits_coordinator shards v call reply after h.0 h.1 b
-fits shards v (Shard s call) (from_shard reply) after h b = fits_shard shards s v call reply after h.0 h.1 b
-fits shards v call reply after h b = absurd b
+fits_of : (shards : ℕ) (v : WriteView) (call : NodeCall) (reply : Reply) (after : WriteView) → Asks shards v call after → IsReplyTo call reply → MayGive shards after reply
+fits_of shards v (Coordinator call) (from_coordinator reply) after h b = fits_coordinator shards v call reply after h.0 h.1 b
+fits_of shards v (Shard s call) (from_shard reply) after h b = fits_shard shards s v call reply after h.0 h.1 b
+fits_of shards v call reply after h b = absurd b
+
+pub fits : (v : WriteFlowValue) (call : NodeCall) (out : WriteCallValue) (reply : Reply) → AsksWrite v call out → IsReplyTo call reply → AwaitsWrite out reply
+fits v call out reply asks b = subst (λ (n : ℕ). Fits n (seen_out out) out.awaited reply) (sym asks.1) (fits_of v.shards (seen_of v) call reply (seen_out out) asks.2 b)

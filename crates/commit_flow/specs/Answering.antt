@@ -1,5 +1,5 @@
 -- What each reply makes of a write flow.
-use Rattle.std.specs.Prelude.{◌≡◌, ◌≢◌, ◌⊎◌, ◌++◌, ℕ, Bool, true, false, List, [], ◌∷◌, Option, Some, None, Result, Ok, Err, IfOk, MatchOption}
+use Rattle.std.specs.Prelude.{◌≡◌, ◌≢◌, ◌⊎◌, ◌++◌, ℕ, Bool, true, false, List, [], ◌∷◌, Option, Some, None, Result, Ok, Err, IfOk}
 use Rattle.tuples.specs.declared.entry.WriteId.{WriteId}
 use Rattle.tuples.specs.Parts.{takes_part}
 use Rattle.refusal.specs.declared.refusal.Refusal.{Refusal}
@@ -131,11 +131,11 @@ GivesTo v waits.drop_write (Shard (told_by.DropWrite verdict r)) after = GoesToD
 GivesTo v awaited reply after = ⊥
 
 -- The call that comes next if a node answered that a flush has to come first, and after that flush. So nothing is asked again before it can be answered.
-abbrev pub ComesNext : WriteAwaited → Reply → Option CallName → Type 0
-ComesNext (waits.vote s) (Shard (told_by.Vote (votes_later t))) next = next ≡ Some names.Flush
-ComesNext (waits.flush_to_vote s) (Shard (told_by.Flush (Ok done))) next = next ≡ Some names.Vote
-ComesNext waits.outcome (Coordinator (told.Outcome (Later d))) next = next ≡ Some names.Flush
-ComesNext waits.flush_to_outcome (Coordinator (told.Flush r)) next = next ≡ Some names.Outcome
+abbrev pub ComesNext : WriteAwaited → Reply → CallName → Type 0
+ComesNext (waits.vote s) (Shard (told_by.Vote (votes_later t))) next = next ≡ names.Flush
+ComesNext (waits.flush_to_vote s) (Shard (told_by.Flush (Ok done))) next = next ≡ names.Vote
+ComesNext waits.outcome (Coordinator (told.Outcome (Later d))) next = next ≡ names.Flush
+ComesNext waits.flush_to_outcome (Coordinator (told.Flush r)) next = next ≡ names.Outcome
 ComesNext awaited reply next = Unit {0}
 
 -- an intent that comes back is that of the flow's write
@@ -171,7 +171,3 @@ Fits shards v waits.abort (Coordinator (told.Abort r)) = Unit {0}
 Fits shards v waits.inquire (Coordinator (told.Inquire r)) = Unit {0}
 Fits shards v waits.drop_write (Shard (told_by.DropWrite verdict r)) = Unit {0}
 Fits shards v awaited reply = ⊥
-
--- a reply may be given: a call is out, and it is one to that call
-abbrev pub MayGive : ℕ → WriteView → Reply → Type 0
-MayGive shards v reply = MatchOption v.awaited ⊥ (λ awaited. Fits shards v awaited reply)

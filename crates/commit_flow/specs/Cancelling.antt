@@ -4,12 +4,10 @@ use Rattle.commit_flow.specs.declared.end.WriteEnd.TheVariants.{Cancelled}
 use Rattle.commit_flow.specs.WriteHolds.{onward, outward}
 use Rattle.commit_flow.specs.Views.{WriteView, at_rest, view_ended}
 
--- it is on its way, is not decided and waits for no reply
+-- it is on its way, and is not decided
 pub record IsUndecided (v : WriteView) : Type 0 where
   pub way : v.holds.way ≡ onward
   pub decided : v.holds.decided ≡ None
-  pub awaited : v.awaited ≡ None
-  pub ended : v.ended ≡ None
 
 -- A write that is not begun ends; one that is begun goes out without a refusal; any other stays as it is.
 pub record Cancels (old new : WriteView) : Type 0 where

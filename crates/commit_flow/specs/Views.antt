@@ -8,6 +8,8 @@ use Rattle.decisions.specs.declared.held.Held.{Held}
 use Rattle.decisions.specs.declared.held.Held.TheVariants.{Ticket, Vote as held_vote}
 use Rattle.names.specs.declared.call_name.CallName.{CallName}
 use Rattle.names.specs.declared.call_name.CallName.TheVariants as names
+use Rattle.calls.specs.declared.progress.Progress.{Progress}
+use Rattle.calls.specs.declared.progress.Progress.TheVariants.{Next, Ended}
 use Rattle.commit_flow.specs.declared.end.WriteEnd.{WriteEnd}
 use Rattle.commit_flow.specs.declared.end.WriteEnd.TheVariants.{Wrote, Refused, Cancelled}
 use Rattle.commit_flow.specs.declared.load.Load.{Load}
@@ -18,8 +20,6 @@ use Rattle.commit_flow.specs.declared.phase.Ready.{Ready}
 use Rattle.commit_flow.specs.declared.phase.Ready.TheVariants as ready
 use Rattle.commit_flow.specs.declared.phase.Out.{Out}
 use Rattle.commit_flow.specs.declared.phase.Out.TheVariants as out
-use Rattle.commit_flow.specs.declared.phase.Phase.{Phase}
-use Rattle.commit_flow.specs.declared.phase.Phase.TheVariants as phases
 use Rattle.commit_flow.specs.WriteHolds.{HeldTicket, Way, WriteAwaited, WriteHolds, nothing_begun, onward, outward}
 use Rattle.commit_flow.specs.WriteHolds as waits
 
@@ -112,7 +112,7 @@ holds_out (out.Prepare p again) = holds_onward p.id None (tickets_of p.load) p.l
 holds_out (out.FlushToPrepare p) = holds_preparing p None
 holds_out (out.Vote v) = holds_voting v []
 holds_out (out.FlushToVote v t) = holds_voting v (ticket_value (v.shard, t) ∷ [])
-holds_out (out.Decide shards id again) = holds_onward id None [] [] None
+holds_out (out.Decide id again) = holds_onward id None [] [] None
 holds_out (out.FlushToDecide b) = holds_onward b.intent.write.id (Some b.intent) [] b.votes None
 holds_out (out.Outcome id) = holds_decided id None
 holds_out (out.FlushToOutcome id d) = holds_decided id (Some d)
@@ -123,18 +123,7 @@ holds_out (out.DropWrite l) = holds_leaving l None [] [] None
 -- the write, before it is begun
 abbrev pub write_of : Ready → Option WriteValue
 write_of (ready.Begin write load) = Some write
-write_of (ready.CatchUp p c) = None
-write_of (ready.Prepare p again) = None
-write_of (ready.FlushToPrepare p) = None
-write_of (ready.Vote v t) = None
-write_of (ready.FlushToVote v t) = None
-write_of (ready.Decide b again) = None
-write_of (ready.FlushToDecide b) = None
-write_of (ready.Outcome id d) = None
-write_of (ready.FlushToOutcome id d) = None
-write_of (ready.Abort i l) = None
-write_of (ready.Inquire l) = None
-write_of (ready.DropWrite v l s h) = None
+write_of r = None
 
 -- the call that is out
 abbrev pub awaited_of : Out → WriteAwaited
@@ -144,7 +133,7 @@ awaited_of (out.Prepare p again) = waits.prepare p.shard again p.participants
 awaited_of (out.FlushToPrepare p) = waits.flush_to_prepare p.shard
 awaited_of (out.Vote v) = waits.vote v.shard
 awaited_of (out.FlushToVote v t) = waits.flush_to_vote v.shard
-awaited_of (out.Decide shards id again) = waits.decide again
+awaited_of (out.Decide id again) = waits.decide again
 awaited_of (out.FlushToDecide b) = waits.flush_to_decide
 awaited_of (out.Outcome id) = waits.outcome
 awaited_of (out.FlushToOutcome id d) = waits.flush_to_outcome
@@ -154,73 +143,32 @@ awaited_of (out.DropWrite l) = waits.drop_write
 
 -- the shard that is caught up, and prepares its part next
 abbrev pub caught_of : Ready → Option ℕ
-caught_of (ready.Begin write load) = None
-caught_of (ready.CatchUp p c) = None
 caught_of (ready.Prepare p again) = Some p.shard
 caught_of (ready.FlushToPrepare p) = Some p.shard
-caught_of (ready.Vote v t) = None
-caught_of (ready.FlushToVote v t) = None
-caught_of (ready.Decide b again) = None
-caught_of (ready.FlushToDecide b) = None
-caught_of (ready.Outcome id d) = None
-caught_of (ready.FlushToOutcome id d) = None
-caught_of (ready.Abort i l) = None
-caught_of (ready.Inquire l) = None
-caught_of (ready.DropWrite v l s h) = None
+caught_of r = None
 
 -- the same while a call is out
 abbrev pub caught_out : Out → Option ℕ
-caught_out (out.Begin load) = None
-caught_out (out.CatchUp p c) = None
-caught_out (out.Prepare p again) = None
 caught_out (out.FlushToPrepare p) = Some p.shard
-caught_out (out.Vote v) = None
-caught_out (out.FlushToVote v t) = None
-caught_out (out.Decide shards id again) = None
-caught_out (out.FlushToDecide b) = None
-caught_out (out.Outcome id) = None
-caught_out (out.FlushToOutcome id d) = None
-caught_out (out.Abort l) = None
-caught_out (out.Inquire l) = None
-caught_out (out.DropWrite l) = None
+caught_out o = None
 
 -- whether the node of the next call was flushed for it
 abbrev pub flushed_of : Ready → Bool
-flushed_of (ready.Begin write load) = false
-flushed_of (ready.CatchUp p c) = false
 flushed_of (ready.Prepare p again) = again
-flushed_of (ready.FlushToPrepare p) = false
-flushed_of (ready.Vote v t) = false
-flushed_of (ready.FlushToVote v t) = false
 flushed_of (ready.Decide b again) = again
-flushed_of (ready.FlushToDecide b) = false
-flushed_of (ready.Outcome id d) = false
-flushed_of (ready.FlushToOutcome id d) = false
-flushed_of (ready.Abort i l) = false
-flushed_of (ready.Inquire l) = false
-flushed_of (ready.DropWrite v l s h) = false
+flushed_of r = false
 
 -- the same for the call that is out
 abbrev pub flushed_out : Out → Bool
-flushed_out (out.Begin load) = false
-flushed_out (out.CatchUp p c) = false
 flushed_out (out.Prepare p again) = again
-flushed_out (out.FlushToPrepare p) = false
-flushed_out (out.Vote v) = false
-flushed_out (out.FlushToVote v t) = false
-flushed_out (out.Decide shards id again) = again
-flushed_out (out.FlushToDecide b) = false
-flushed_out (out.Outcome id) = false
-flushed_out (out.FlushToOutcome id d) = false
-flushed_out (out.Abort l) = false
-flushed_out (out.Inquire l) = false
-flushed_out (out.DropWrite l) = false
+flushed_out (out.Decide id again) = again
+flushed_out o = false
 
 -- a write that was begun, between two calls, if no shard is to prepare and no node was flushed
 abbrev pub at_rest : WriteHolds → WriteView
 at_rest holds = record { write = None; holds = holds; caught = None; flushed = false; awaited = None; ended = None }
 
--- what is seen of each phase
+-- what is seen of each phase, and after a reply
 abbrev pub view_ready : Ready → WriteView
 view_ready r = record { write = write_of r; holds = holds_ready r; caught = caught_of r; flushed = flushed_of r; awaited = None; ended = None }
 
@@ -230,17 +178,11 @@ view_out o = record { write = None; holds = holds_out o; caught = caught_out o; 
 abbrev pub view_ended : WriteEnd → WriteView
 view_ended end = record { write = None; holds = holds_ended end; caught = None; flushed = false; awaited = None; ended = Some end }
 
-abbrev pub view_of : Phase → WriteView
-view_of (phases.Ready r) = view_ready r
-view_of (phases.Out o) = view_out o
-view_of (phases.Ended end) = view_ended end
+abbrev pub view_of : Progress Ready WriteEnd → WriteView
+view_of (Next r) = view_ready r
+view_of (Ended end) = view_ended end
 
--- of the phase that a write is in; it is taken out only within a call
-abbrev pub view_in : Option Phase → WriteView
-view_in None = at_rest nothing_begun
-view_in (Some p) = view_of p
-
--- the name of its next call, if there is one
+-- the name of its next call
 abbrev pub name_ready : Ready → CallName
 name_ready (ready.Begin write load) = names.Begin
 name_ready (ready.CatchUp p c) = c.next
@@ -255,12 +197,3 @@ name_ready (ready.FlushToOutcome id d) = names.Flush
 name_ready (ready.Abort i l) = names.Abort
 name_ready (ready.Inquire l) = names.Inquire
 name_ready (ready.DropWrite v l s h) = names.DropWrite
-
-abbrev pub name_of : Phase → Option CallName
-name_of (phases.Ready r) = Some (name_ready r)
-name_of (phases.Out o) = None
-name_of (phases.Ended end) = None
-
-abbrev pub name_in : Option Phase → Option CallName
-name_in None = None
-name_in (Some p) = name_of p

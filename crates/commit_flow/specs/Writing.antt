@@ -3,8 +3,6 @@ use Rattle.std.specs.Prelude.{◌≡◌, ◌≢◌, ◌⊎◌, ◌<◌, ◌++◌
 use Rattle.tuples.specs.Parts.{takes_part}
 use Rattle.refusal.specs.declared.refusal.Refusal.{Refusal}
 use Rattle.decisions.specs.Values.{IntentValue, TicketValue, VoteValue}
-use Rattle.coordinator.specs.declared.telling.Outcome as outcomes
-use Rattle.coordinator.specs.declared.telling.Inquiry as inquiries
 use Rattle.calls.specs.Asking.{MayAskCoordinator, MayAskShard}
 use Rattle.calls.specs.declared.call.NodeCall.{NodeCall}
 use Rattle.calls.specs.declared.call.NodeCall.TheVariants.{Coordinator, Shard}

@@ -1,9 +1,10 @@
 // The decision of a write, and what became of it.
 ghost use Rattle.std.specs.Prelude.{◌≡◌, [], Some, None, true, ℕ};
+ghost use Rattle.calls.specs.Flows.{IfNext};
 ghost use Rattle.decisions.specs.Coordinators.{HaveVoted};
 ghost use Rattle.commit_flow.specs.Answering.{ComesNext, DecideGives, FlushGives, NotDecidedGives, OutcomeGives, RefusedBack};
-ghost use Rattle.commit_flow.specs.Kept.{IsReadyOf, IsBehindOf};
-ghost use Rattle.commit_flow.specs.Views.{at_rest, holds_onward, name_of, view_of, view_out, view_ready};
+ghost use Rattle.commit_flow.specs.Kept.{IsReadyOf};
+ghost use Rattle.commit_flow.specs.Views.{at_rest, holds_onward, name_ready, view_of, view_out, view_ready};
 ghost use Rattle.commit_flow.specs.WriteHolds as awaits;
 ghost use Rattle.commit_flow.specs.WriteHolds.{outward};
 ghost use Rattle.calls.specs.declared.reply.Reply.TheVariants as replies;
@@ -12,7 +13,8 @@ ghost use Rattle.commit_flow.specs.declared.phase.Out.TheVariants.{Decide as dec
 
 use crate::ballot::Ballot;
 use crate::end::WriteEnd;
-use crate::phase::{Leaving, Phase, Ready};
+use crate::phase::{Leaving, Ready};
+use calls::Progress;
 use coordinator::{Decided, NotDecided, Outcome};
 use decisions::{Intent, Vote};
 use std::alloc::Global;
@@ -49,7 +51,7 @@ fn come_back(
     votes: Vec<Vote>,
 ) -> Ready
     requires voted { HaveVoted shards intent.write votes.items }
-    ensures gives { NotDecidedGives (view_out (decide_out shards intent.write.id is_again)) is_again refusal (Some intent) votes.items (view_ready result) }
+    ensures gives { NotDecidedGives (view_out (decide_out intent.write.id is_again)) is_again refusal (Some intent) votes.items (view_ready result) }
     ensures kept { IsReadyOf shards result }
 {
     if refusal != Refusal::Full || is_again {
@@ -67,7 +69,7 @@ pub(crate) fn decided(
     answer: Result<Decided, NotDecided>,
 ) -> Ready
     requires back { RefusedBack shards id answer }
-    ensures gives { DecideGives (view_out (decide_out shards id is_again)) is_again answer (view_ready result) }
+    ensures gives { DecideGives (view_out (decide_out id is_again)) is_again answer (view_ready result) }
     ensures kept { IsReadyOf shards result }
 {
     match answer {
@@ -107,14 +109,14 @@ pub(crate) fn flushed_to_decide(alloc: Global, ballot: Ballot, answer: Result<()
 }
 
 /// What became of the decision: it is kept, or has to be flushed first, or it is unknown.
-pub(crate) fn told(id: WriteId, outcome: Outcome) -> Phase
+pub(crate) fn told(id: WriteId, outcome: Outcome) -> Progress<Ready, WriteEnd>
     ensures gives { OutcomeGives (view_out (outcome_out id)) outcome (view_of result) }
-    ensures next { ComesNext awaits.outcome (replies.Coordinator (coordinator_replies.Outcome outcome)) (name_of result) }
-    ensures kept { (shards : ℕ) → IsBehindOf shards result }
+    ensures next { IfNext result (λ ready. ComesNext awaits.outcome (replies.Coordinator (coordinator_replies.Outcome outcome)) (name_ready ready)) }
+    ensures kept { (shards : ℕ) → IfNext result (IsReadyOf shards) }
 {
     match outcome {
-        Outcome::Kept(place) => Phase::Ended(WriteEnd::Wrote(place)),
-        Outcome::Later(decided) => Phase::Ready(Ready::FlushToOutcome(id, decided)),
-        Outcome::Unsure => Phase::Ended(WriteEnd::Refused(Refusal::Unsure)),
+        Outcome::Kept(place) => Progress::Ended(WriteEnd::Wrote(place)),
+        Outcome::Later(decided) => Progress::Next(Ready::FlushToOutcome(id, decided)),
+        Outcome::Unsure => Progress::Ended(WriteEnd::Refused(Refusal::Unsure)),
     }
 }

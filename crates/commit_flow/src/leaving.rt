@@ -1,9 +1,9 @@
 // What a flow holds is only spent.
 use crate::load::{leave_tickets, leave_votes};
-use crate::phase::{AskedPrepare, Leaving, Out, Phase, Preparing, Ready, Voting};
+use crate::phase::{Leaving, Preparing, Ready, Voting};
 use decisions::Ticket;
 
-pub(crate) fn leave_preparing(preparing: Preparing) {
+fn leave_preparing(preparing: Preparing) {
     let Preparing {
         intent,
         load,
@@ -13,17 +13,7 @@ pub(crate) fn leave_preparing(preparing: Preparing) {
     load.leave();
 }
 
-pub(crate) fn leave_asked(asked: AskedPrepare) {
-    let AskedPrepare {
-        id: _,
-        load,
-        shard: _,
-        participants: _,
-    } = asked;
-    load.leave();
-}
-
-pub(crate) fn leave_voting(voting: Voting) {
+fn leave_voting(voting: Voting) {
     let Voting {
         intent,
         load,
@@ -33,7 +23,7 @@ pub(crate) fn leave_voting(voting: Voting) {
     load.leave();
 }
 
-pub(crate) fn leave_with(voting: Voting, ticket: Ticket) {
+fn leave_with(voting: Voting, ticket: Ticket) {
     ticket.leave();
     leave_voting(voting);
 }
@@ -77,36 +67,6 @@ impl Ready {
                 held.leave();
                 leaving.leave();
             }
-        }
-    }
-}
-
-impl Out {
-    pub(crate) fn leave(self) {
-        match self {
-            Out::Begin(load) => load.leave(),
-            Out::CatchUp(preparing, _) => leave_preparing(preparing),
-            Out::Prepare(asked, _) => leave_asked(asked),
-            Out::FlushToPrepare(preparing) => leave_preparing(preparing),
-            Out::Vote(voting) => leave_voting(voting),
-            Out::FlushToVote(voting, ticket) => leave_with(voting, ticket),
-            Out::Decide(_, _, _) => {}
-            Out::FlushToDecide(ballot) => ballot.leave(),
-            Out::Outcome(_) => {}
-            Out::FlushToOutcome(_, decided) => decided.leave(),
-            Out::Abort(leaving) => leaving.leave(),
-            Out::Inquire(leaving) => leaving.leave(),
-            Out::DropWrite(leaving) => leaving.leave(),
-        }
-    }
-}
-
-impl Phase {
-    pub(crate) fn leave(self) {
-        match self {
-            Phase::Ready(ready) => ready.leave(),
-            Phase::Out(out) => out.leave(),
-            Phase::Ended(_) => {}
         }
     }
 }

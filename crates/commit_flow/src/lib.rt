@@ -2,7 +2,7 @@
 //!
 //! Keeps: what has to be spent, in the phase that may spend it, until a call takes it.
 //! Never: calls a node itself or waits; decides twice, or after a refusal or a cancel; needs memory once it is made.
-//! Callers rely on: `next_call` asks only for what may be asked, and `finish` has spent every value.
+//! Callers rely on: `next_call` asks only for what may be asked, and a flow that is left has spent every value.
 //!
 //! Start at `specs/Writing.antt`, which calls are made and what each reply makes of it.
 #![tactic(auto)]
@@ -20,8 +20,7 @@ mod next;
 mod participants;
 mod phase;
 mod preparing;
-mod running;
 mod voting;
 
 pub use end::WriteEnd;
-pub use flow::WriteFlow;
+pub use flow::{WriteCall, WriteFlow};

@@ -65,11 +65,11 @@ fn decide(ballot: Ballot, is_again: bool) -> (NodeCall, Out)
     ensures asks { Asks ballot.shards (view_ready (ready_decide ballot is_again)) result.0 (view_out result.1) }
     ensures kept { IsOutOf ballot.shards result.1 }
 {
-    let (shards, intent, votes) = ballot.into_parts();
+    let (_shards, intent, votes) = ballot.into_parts();
     let id = intent.id();
     (
         NodeCall::Coordinator(CoordinatorCall::Decide(intent, votes)),
-        Out::Decide(shards, id, is_again),
+        Out::Decide(id, is_again),
     )
 }
 

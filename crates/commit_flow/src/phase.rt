@@ -6,12 +6,11 @@ ghost use Rattle.tuples.specs.Parts.{takes_part};
 ghost use Rattle.commit_flow.specs.Participants.{ArePartsOf, AreTicketsFor, AreVotesFor, participants_below, ticket_shards, vote_shards};
 
 use crate::ballot::Ballot;
-use crate::end::WriteEnd;
 use crate::load::Load;
 use catch_up::{CatchUp, CatchUpCall};
 use coordinator::Decided;
 use decisions::{Held, Intent, Ticket, Verdict, Vote};
-use tuples::{Refusal, Shards, Write, WriteId};
+use tuples::{Refusal, Write, WriteId};
 
 /// The shards prepare their parts, one after another. It is this one's turn.
 pub(crate) struct Preparing {
@@ -90,17 +89,11 @@ pub(crate) enum Out {
     FlushToPrepare(Preparing),
     Vote(Voting),
     FlushToVote(Voting, Ticket),
-    Decide(Shards, WriteId, bool),
+    Decide(WriteId, bool),
     FlushToDecide(Ballot),
     Outcome(WriteId),
     FlushToOutcome(WriteId, Decided),
     Abort(Leaving),
     Inquire(Leaving),
     DropWrite(Leaving),
-}
-
-pub(crate) enum Phase {
-    Ready(Ready),
-    Out(Out),
-    Ended(WriteEnd),
 }

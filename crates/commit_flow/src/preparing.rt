@@ -2,9 +2,10 @@
 ghost use Rattle.std.specs.Prelude.{◌≡◌, ◌≤◌, ◌<◌, ◌+◌, [], Some, None, true, false, IfOk};
 ghost use Rattle.std.specs.Vec.{vec_len};
 ghost use Rattle.tuples.specs.Parts.{takes_part};
+ghost use Rattle.calls.specs.Flows.{IfNext};
 ghost use Rattle.catch_up.specs.CatchingUp.{Fits as FitsCatchUp};
 ghost use Rattle.commit_flow.specs.Answering.{BeginGives, CatchUpGives, FlushGives, GoesOn, PrepareGives};
-ghost use Rattle.commit_flow.specs.Kept.{IsFresh, IsReadyOf, IsBehindOf};
+ghost use Rattle.commit_flow.specs.Kept.{IsFresh, IsReadyOf};
 ghost use Rattle.commit_flow.specs.Participants.{ArePartsOf, AreTicketsFor, participants_below, ticket_shards};
 ghost use Rattle.commit_flow.specs.Views.{holds_onward, tickets_of, view_of, view_out, view_ready};
 ghost use Rattle.commit_flow.specs.declared.phase.Out.TheVariants.{Begin as begin_out, CatchUp as catch_up_out, FlushToPrepare as flush_out, Prepare as prepare_out};
@@ -12,10 +13,10 @@ ghost use Rattle.commit_flow.specs.declared.phase.Out.TheVariants.{Begin as begi
 use crate::end::WriteEnd;
 use crate::load::Load;
 use crate::participants::next_shard;
-use crate::phase::{AskedPrepare, Phase, Preparing, Ready};
+use crate::phase::{AskedPrepare, Preparing, Ready};
 use crate::voting::{go_out, vote_next};
-use calls::Reply;
-use catch_up::{CatchUp, CatchUpCall, Progress};
+use calls::{Progress, Reply};
+use catch_up::{CatchUp, CatchUpCall};
 use decisions::{Intent, Ticket};
 use tuples::Refusal;
 
@@ -45,16 +46,16 @@ pub(crate) fn prepare_next(intent: Intent, load: Load, from: u8) -> Ready
 }
 
 /// The coordinator has begun the write, or not.
-pub(crate) fn begun(load: Load, answer: Result<Intent, Refusal>) -> Phase
+pub(crate) fn begun(load: Load, answer: Result<Intent, Refusal>) -> Progress<Ready, WriteEnd>
     requires { IsFresh load.shards load }
     ensures gives { BeginGives (view_out (begin_out load)) answer (view_of result) }
-    ensures kept { IsBehindOf load.shards result }
+    ensures kept { IfNext result (IsReadyOf load.shards) }
 {
     match answer {
-        Ok(intent) => Phase::Ready(prepare_next(intent, load, 0)),
+        Ok(intent) => Progress::Next(prepare_next(intent, load, 0)),
         Err(refusal) => {
             load.leave();
-            Phase::Ended(WriteEnd::Refused(refusal))
+            Progress::Ended(WriteEnd::Refused(refusal))
         }
     }
 }
@@ -68,9 +69,9 @@ pub(crate) fn caught_up(preparing: Preparing, call: CatchUpCall, reply: Reply) -
     ensures kept { IsReadyOf preparing.load.shards result }
 {
     match call.give(reply) {
-        Progress::Next(catch_up) => Ready::CatchUp(preparing, catch_up),
-        Progress::There => Ready::Prepare(preparing, false),
-        Progress::Refused(refusal) => refused(preparing, refusal),
+        catch_up::Progress::Next(catch_up) => Ready::CatchUp(preparing, catch_up),
+        catch_up::Progress::There => Ready::Prepare(preparing, false),
+        catch_up::Progress::Refused(refusal) => refused(preparing, refusal),
     }
 }
 

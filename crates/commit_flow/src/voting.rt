@@ -87,7 +87,7 @@ fn decide_next(intent: Intent, load: Load) -> Ready
 pub(crate) fn voted(voting: Voting, answer: VoteReply) -> Ready
     requires { IsVoteOf voting.shard voting.intent.write.id answer }
     ensures gives { VoteGives (view_out (vote_out voting)) voting.shard answer (view_ready result) }
-    ensures next { ComesNext (awaits.vote voting.shard) (replies.Shard (shard_replies.Vote answer)) (Some (name_ready result)) }
+    ensures next { ComesNext (awaits.vote voting.shard) (replies.Shard (shard_replies.Vote answer)) (name_ready result) }
     ensures kept { IsReadyOf voting.load.shards result }
 {
     match answer {
@@ -116,7 +116,7 @@ pub(crate) fn voted(voting: Voting, answer: VoteReply) -> Ready
 pub(crate) fn flushed_to_vote(voting: Voting, ticket: Ticket, answer: Result<(), Refusal>) -> Ready
     requires { ticket.id ≡ voting.intent.write.id }
     ensures gives { FlushGives (view_out (flush_vote_out voting ticket)) false answer (view_ready result) }
-    ensures next { ComesNext (awaits.flush_to_vote voting.shard) (replies.Shard (shard_replies.Flush answer)) (Some (name_ready result)) }
+    ensures next { ComesNext (awaits.flush_to_vote voting.shard) (replies.Shard (shard_replies.Flush answer)) (name_ready result) }
     ensures kept { IsReadyOf voting.load.shards result }
 {
     match answer {

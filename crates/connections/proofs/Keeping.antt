@@ -79,16 +79,16 @@ took_all x (u ∷ vs) (suc port) v empty at all =
 
 -- ---- a change of one pass
 
--- all passes fit where the others do, and the one that changed does
+-- all passes fit if the others do, and the one that changed does
 passes_set : (F : ℕ → View → Type 0) (views : List View) (port : ℕ) (w : View) → ((j : ℕ) (u : View) → j ≢ port → get_elem? views j ≡ some u → F j u) → F port w → (j : ℕ) (u : View) → get_elem? (set views port w) j ≡ some u → F j u
 passes_set F views port w others mine j u e =
     ⊎_elim (λ (t : (j ≡ port) × (w ≡ u)). subst (λ (y : ℕ × View). F y.0 y.1) (λ i. (sym t.0 i, t.1 i)) mine) (λ (t : (j ≢ port) × (get_elem? views j ≡ some u)). others j u t.0 t.1) (at_set views port j w u e)
 
--- another pass is as before where one has changed
+-- another pass is as before if one has changed
 other_was : (views : List View) (port other : ℕ) (w u : View) → other ≢ port → get_elem? (set views port w) other ≡ some u → get_elem? views other ≡ some u
 other_was views port other w u apart there = ⊎_elim (λ (t : (other ≡ port) × (w ≡ u)). absurd (apart t.0)) (λ (t : (other ≢ port) × (get_elem? views other ≡ some u)). t.1) (at_set views port other w u there)
 
--- the totals where a change of one pass keeps what it took or its share
+-- the totals if a change of one pass keeps what it took or its share
 same_taken : (x : ℕ) (views : List View) (port : ℕ) (v w : View) → get_elem? views port ≡ some v → w.taken ≡ v.taken → taken_in_all x (set views port w) ≡ taken_in_all x views
 same_taken x views port v w at same =
     let t = total_set (took x) views port v w at in
@@ -315,7 +315,7 @@ known_end : (b : Bool) (is put : End) → (if b then Some is else None) ≡ Some
 known_end true is put e = (refl, ap (λ (o : Option End). unwrap_or o is) e)
 known_end false is put e = cc
 
--- where all passes are gathered in one, and nothing waits, it took each number that was put
+-- if all passes are gathered in one, and nothing waits, it took each number that was put
 pub all_taken : {C : Type 0} (v : View) (items : List (Numbered C)) (put : ℕ) → length items ≡ 0 → Waits v items → end_of v ≡ Some (record { put = put; passes = v.share }) → IsEach put v.taken
 all_taken v items put none waits whole =
     let known = known_end v.puts (record { put = v.put; passes = v.made }) (record { put = put; passes = v.share }) whole in

@@ -14,7 +14,7 @@ pub record End : Type 0 where
   pub put : ℕ
   pub passes : ℕ
 
--- a worker's queue, how many passes are gathered in this one, the numbers that they took, and the end, where the acceptor's is among them
+-- a worker's queue, how many passes are gathered in this one, the numbers that they took, and the end, if the acceptor's is among them
 pub record Taking : Type 0 where
   pub queue : TableId
   pub passes : ℕ

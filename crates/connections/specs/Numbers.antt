@@ -6,12 +6,12 @@ abbrev pub times : ℕ → List ℕ → ℕ
 times x [] = 0
 times x (y ∷ ys) = (if y == x then 1 else 0) + times x ys
 
--- 1 where x is one of the numbers 1 to n, and else 0
+-- 1 if x is one of the numbers 1 to n, and else 0
 abbrev pub once_up_to : ℕ → ℕ → ℕ
 once_up_to x zero = 0
 once_up_to x (suc n) = once_up_to x n + (if suc n == x then 1 else 0)
 
--- the k numbers behind m
+-- the k numbers after m
 abbrev pub behind : ℕ → ℕ → List ℕ
 behind m zero = []
 behind m (suc k) = suc m ∷ behind (suc m) k

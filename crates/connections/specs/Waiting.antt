@@ -57,7 +57,7 @@ module _ {C : Type 0} where
   abbrev pub numbers : List (Numbered C) → List ℕ
   numbers items = map (λ (i : Numbered C). i.number) items
 
-  -- the numbers up to `gone` were taken, each once, and those behind it wait, in their order
+  -- the numbers up to `gone` were taken, each once, and those after it wait, in their order
   pub record Ruled (items : List (Numbered C)) (views : List View) : Type 0 where
     pub writer : ℕ
     pub made : ℕ
@@ -75,7 +75,7 @@ module _ {C : Type 0} where
   abbrev pub Took : View → Numbered C → View → Type 0
   Took v x w = (w ≡ record v { taken = v.taken ++ x.number ∷ [] }) × IsAbove x.number v.taken
 
-  -- what waits are the numbers behind some number, up to the last that was put; none of them is one that the pass took or was told of; where all passes are
+  -- what waits are the numbers after some number, up to the last that was put; none of them is one that the pass took or was told of; if all passes are
   -- gathered in this one, it took each number up to that one
   abbrev pub Waits : View → List (Numbered C) → Type 0
   Waits v items = (gone : ℕ) × (numbers items ≡ behind gone (length items)) × IsUpTo gone v.taken × IsUpTo gone v.told × (v.puts ≡ true → v.put ≡ gone + length items)

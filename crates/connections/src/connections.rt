@@ -105,7 +105,7 @@ impl<C: Drop> Connections<C> {
         }
     }
 
-    /// Takes a connection, with its number, which is above all that the pass took. Where all passes are gathered in this one, None says that each number that
+    /// Takes a connection, with its number, which is above all that the pass took. If all passes are gathered in this one, None says that each number that
     /// was put was taken, and none twice.
     pub fn take<R: Wait>(&self, rt: &R, worker: &mut WorkerPass<C>) -> Option<(u64, C)>
         requires queue { worker.old.queue ≡ self.now }

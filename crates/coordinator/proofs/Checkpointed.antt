@@ -70,7 +70,7 @@ remembers_above w m epoch end r was = record {
     same_end : end_of (above_horizon w) ≡ end_of w
     same_end = omega (arith, length-drop (w.horizon - w.base) w.log, was.first, was.base, was.horizon_is, was.risen_within)
 
--- ---- the coordinator behind it
+-- ---- the coordinator after it
 
 module _ {D : Type 0} (state : D → State) (honest : D → Type 0) (j k : View D) (me : Identity) (l m : LedgerValue) (epoch kept horizon end : ℕ) (rising : Option ℕ) (numbers : List ℕ) (given : ℕ)
     (was : IsKept state honest j l epoch kept horizon rising numbers given) (h : ℕ) (h_is : h ≡ risen horizon rising) where
@@ -136,7 +136,7 @@ module _ {D : Type 0} (state : D → State) (honest : D → Type 0) (j k : View 
         let each = leaves run.honest_a run.honest_b run.up in
         subst (λ (cs : List Record). LeavesEach moment left_since j.a j.b k.a k.b (HasOldOrNewOr j.durable j.staged cs)) (point_here run) each)
 
-    -- and behind it
+    -- and after it
     pub point_checked : (v : CoordinatorView D) → seen j ≡ v → (honest j.a → honest k.a) → (honest j.b → honest k.b) → k.is_down ≡ false
         → (honest j.a → honest j.b → (k.durable ≡ checkpoint_of (generation_of j.durable + 1) (told_by me epoch h l)) × HasRecords (state k.a) (state k.b) k.durable)
         → IsRunning state honest v → IsRunning state honest (seen k) × (k.durable ≡ next_checkpoint v)

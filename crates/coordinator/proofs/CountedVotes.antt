@@ -66,7 +66,7 @@ module _ (shards missing later few : ℕ) (w : Entry) (votes : List VoteValue) (
 no_bit : (s : ℕ) → IsBitSet 0 s → ⊥
 no_bit s set = let le = and_le_l 0 (2 ^ s) in set (omega (arith, le))
 
--- where no vote is missing, all have voted
+-- if no vote is missing, all have voted
 pub all_counted : (shards : ℕ) (w : Entry) (votes : List VoteValue) → AreCounted shards w votes 0 → HaveVoted shards w votes
 all_counted shards w votes counts = record {
   each = λ s lt takes. ⊎_elim (λ set. absurd (no_bit s set)) (λ voted. voted) (counts.counted s lt takes);
@@ -107,7 +107,7 @@ no_bits n size small none = same_from_bits_below size n 0 small (one-le-pow size
         (λ other. let lt = bit_at-lt n k in omega (arith, lt, other))
         (cases_eq (bit_at n k) 1)
 
--- where all have voted, no vote is missing
+-- if all have voted, no vote is missing
 pub none_missing : (shards : ℕ) (w : Entry) (votes : List VoteValue) (missing : ℕ) → AreCounted shards w votes missing → HaveVoted shards w votes → missing ≡ 0
 none_missing shards w votes missing counts have = no_bits missing shards counts.small (λ s lt set.
     let was = counts.left s lt set in

@@ -71,7 +71,7 @@ module _ (d w : CoordinatorState) (l : LedgerValue) (epoch kept horizon : ℕ) (
   pub kept_not_above : (id : WriteId) → IsOther id l.log → IsNotAbove id d
   kept_not_above id other j x there above = other_above id other j x (in_whole j x there) (let h = r.horizon_is in let b = r.same_base in omega (arith, above, h, b))
 
-  -- where it is found
+  -- if it is found
   module _ (id : WriteId) (place : ℕ) (p : IsPlaceOf id l.base l.log place) where
     abbrev pub found_index : ℕ
     found_index = l.base - w.base + p.index
@@ -91,7 +91,7 @@ module _ (d w : CoordinatorState) (l : LedgerValue) (epoch kept horizon : ℕ) (
     pub found_kept : place ≤ kept → slice_get d.log found_index ≡ Some p.write
     found_kept le = sym (slice_get_front d.log r.more found_index (kept_index le)) ∙ sym (ap (λ (y : List Entry). slice_get y found_index) r.longer) ∙ found_there
 
-    -- no durable decision above the horizon has its id, where it is staged
+    -- no durable decision above the horizon has its id, if it is staged
     pub staged_alone : kept < place → (i : ℕ) (x : Entry) → slice_get d.log i ≡ Some x → x.id ≡ id → horizon < d.base + i + 1 → ⊥
     staged_alone lt i x there same above =
         let b = r.same_base in
@@ -174,7 +174,7 @@ module _ {D : Type 0} (state : D → State) (honest : D → Type 0) (j : View D)
         staged = not_above (coordinator_state j.durable) (coordinator_state (j.durable ++ j.staged)) l epoch kept horizon rising r id other;
       }
 
--- the durable decisions behind a place, as a copy of a part of the ledger
+-- the durable decisions after a place, as a copy of a part of the ledger
 module _ (d w : CoordinatorState) (l : LedgerValue) (epoch kept horizon : ℕ) (rising : Option ℕ) (r : Remembers d w l epoch kept horizon rising) (from count : ℕ) (above : horizon ≤ from) (within : from + count ≤ kept) where
   fits : from - d.base + count ≤ length d.log
   fits = let e = r.kept_is in let b = r.same_base in let f = r.first in let h = r.base in omega (arith, e, b, f, h, above, within)

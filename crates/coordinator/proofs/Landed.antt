@@ -286,7 +286,7 @@ module _ {D : Type 0} (state : D → State) (honest : D → Type 0) where
           let h : HasFlown state honest (view_of j me epoch numbers given) f flying.sent.count = subst (λ (x : CoordinatorView (Away D)). HasFlown state honest x f flying.sent.count) (sym is) (flown view_up both_up.1 ha hb) in
           (h.honest_a, h.honest_b, h.durable, h.rest))))
 
-    -- where the flight went well it is up
+    -- if the flight went well it is up
     pub running_again : (v.is_down ≡ false → f.is_down ≡ false → honest f.a → honest f.b → HasFlown state honest v f flying.sent.count)
         → v.is_down ≡ false → f.is_down ≡ false → honest f.a → honest f.b → IsRunning state honest (view_of k me epoch numbers given)
     running_again flown up flew ha hb = subst (λ (x : View D). IsRunning state honest (view_of x me epoch numbers given)) (sym back) (record {

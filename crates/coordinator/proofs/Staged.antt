@@ -10,7 +10,7 @@ use Rattle.records.specs.Coordinators.{CoordinatorState, coordinator_from, coord
 use Rattle.coordinator.specs.Keeping.{risen}
 use Rattle.coordinator.specs.Staged.{AreInOrder, decided, last_horizon}
 
--- the decisions among them stand behind those that were known
+-- the decisions among them stand after those that were known
 pub decided_behind : (s : CoordinatorState) (rs : List Record) → (coordinator_from s rs).log ≡ s.log ++ decided rs
 unfolding coordinator_step
 decided_behind s [] = sym (append-nil s.log)
@@ -91,7 +91,7 @@ order_wider low high lower higher (Decision place w ∷ rs) below above order = 
 order_wider low high lower higher (Horizon place ∷ rs) below above order =
     (omega (arith, below, order.0), omega (arith, above, order.1), order_wider (place + 1) high (place + 1) higher rs (omega arith) above order.2)
 
--- behind a horizon below them there is a last one, which is no lower
+-- after a horizon below them there is a last one, which is no lower
 rises_on : (low high place : ℕ) (rs : List Record) → place < low → AreInOrder low high rs → (r : ℕ) × (last_horizon (Some place) rs ≡ Some r) × (place ≤ r)
 rises_on low high place [] lt order = (place, refl, omega arith)
 rises_on low high place (Prepare w ∷ rs) lt order = absurd order
@@ -199,7 +199,7 @@ lies_apart : (first next high r : ℕ) (o : Option ℕ) → Lies first next high
 lies_apart first next high r None lies le is = absurd cc
 lies_apart first next high r (Some place) lies le is = let lt = lies.1 in let same : r ≡ place = cc in omega (arith, lt, le, same)
 
--- what comes behind the first of them
+-- what comes after the first of them
 pub record GoesOn (first low high : ℕ) (flown : Option ℕ) (more : List Record) : Type 0 where
   pub next : ℕ
   pub up : low ≤ next
@@ -220,7 +220,7 @@ in_two first low high before (Horizon place ∷ rs) more le order lies =
     let up = rest.up in
     record { next = rest.next; up = omega (arith, on, up); order = rest.order; lies = rest.lies }
 
--- of what comes behind a horizon, the last one is that horizon, or one above it
+-- of what comes after a horizon, the last one is that horizon, or one above it
 last_or_before : (low high : ℕ) (before : Option ℕ) (rs : List Record) → AreInOrder low high rs
     → ((last_horizon before rs ≡ before) × (last_horizon None rs ≡ None)) ⊎ ((r : ℕ) × (last_horizon before rs ≡ Some r) × (last_horizon None rs ≡ Some r) × (low ≤ r))
 last_or_before low high before [] order = inl (refl, refl)
@@ -236,7 +236,7 @@ last_or_before low high before (Horizon place ∷ rs) order =
     let on = order.0 in
     inr (rest.0, rest.1, rest.1, omega (arith, on, le))
 
--- The horizon that is left rising where the first of what is staged is durable.
+-- The horizon that is left rising if the first of what is staged is durable.
 module _ (first low high : ℕ) (flown rising left : Option ℕ) (more : List Record) (le : first ≤ low) (on : GoesOn first low high flown more) (last : rising ≡ last_horizon flown more) where
   cases : ((last_horizon flown more ≡ flown) × (last_horizon None more ≡ None)) ⊎ ((r : ℕ) × (last_horizon flown more ≡ Some r) × (last_horizon None more ≡ Some r) × (on.next ≤ r))
   cases = last_or_before on.next high flown more on.order

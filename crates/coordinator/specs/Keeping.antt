@@ -57,7 +57,7 @@ pub record IsGivenNumber (given n : ℕ) : Type 0 where
   pub some : 1 ≤ n
   pub up_to : n ≤ given
 
--- The memory is that of two lists of records, of which the journal's are the staged ones where it is up, and the durable ones where the devices are
+-- The memory is that of two lists of records, of which the journal's are the staged ones if it is up, and the durable ones where the devices are
 -- honest beside; and the numbers of the open writes were given.
 pub record IsKept {D : Type 0} (state : D → State) (honest : D → Type 0) (journal : View D) (ledger : LedgerValue) (epoch kept horizon : ℕ) (rising : Option ℕ)
     (numbers : List ℕ) (given : ℕ) : Type 0 where

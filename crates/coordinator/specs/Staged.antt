@@ -15,7 +15,7 @@ decided (Epoch epoch store shards node ∷ rs) = decided rs
 decided (Decision place w ∷ rs) = w ∷ decided rs
 decided (Horizon place ∷ rs) = decided rs
 
--- the last horizon among these records; where there is none, the one before them
+-- the last horizon among these records; if there is none, the one before them
 abbrev pub last_horizon : Option ℕ → List Record → Option ℕ
 last_horizon before [] = before
 last_horizon before (Prepare w ∷ rs) = last_horizon before rs

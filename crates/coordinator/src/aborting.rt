@@ -10,7 +10,7 @@ use tuples::Refusal;
 
 impl<D: Device> Coordinator<D> {
     /// Aborts a write that was begun: it is open no longer, and is never decided. The intent is spent whatever comes of it. Nothing has
-    /// changed after a refusal: `Down`; `Aborted` where the id was not given out by this coordinator, or is that of a decision.
+    /// changed after a refusal: `Down`; `Aborted` if the id was not given out by this coordinator, or is that of a decision.
     pub fn abort(&mut self, intent: Intent) -> Result<Verdict, Refusal>
         ensures ok { IsRunning D.state D.honest self.old → IfOk result (λ v. (v.id ≡ intent.write.id) × AbortsAt self.old intent.write.id self.new × IsRunning D.state D.honest self.new) }
         ensures down { IsErrOf result Refusal.Down ↔ (self.old.is_down ≡ true) }

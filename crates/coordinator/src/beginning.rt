@@ -57,7 +57,7 @@ fn has_id(begun: usize, given: u64) -> bool
 impl<D: Device> Coordinator<D> {
     /// Begins a write under the next id, which no other write has. Nothing has changed after a refusal; they are tested in this order:
     /// `Down`; for the first condition that names such a place, `Future` above the last decision, `Collected` below the durable horizon;
-    /// `Full` where 1,024 writes are open or the last number was given; `NoMemory`.
+    /// `Full` if 1,024 writes are open or the last number was given; `NoMemory`.
     pub fn begin(&mut self, write: Write) -> Result<Intent, Refusal>
         ensures ok { IsRunning D.state D.honest self.old → IfOk result (λ i. BeginsAt self.old write.changes write.conditions i self.new × IsRunning D.state D.honest self.new) }
 

@@ -17,7 +17,7 @@ use ledger::Ledger;
 use records::Identity;
 use tuples::{Refusal, Shards};
 
-// Ends the checkpoint behind the decisions of a ledger above a horizon.
+// Ends the checkpoint after the decisions of a ledger above a horizon.
 fn write<D: Device>(
     begun: &mut Begun<D>,
     me: Identity,
@@ -41,7 +41,7 @@ fn write<D: Device>(
 
 impl<D: Device> Coordinator<D> {
     /// Ends the first checkpoint of the coordinator of a store with the same id and so many shards, with what this one knows: how often it was opened, its
-    /// horizon, and its decisions above that. `Down` where a call of a device failed.
+    /// horizon, and its decisions above that. `Down` if a call of a device failed.
     pub fn carry(&self, shards: Shards, begun: &mut Begun<D>) -> Result<(), Refusal>
         ensures honest { (D.honest begun.old.a ↔ D.honest begun.new.a) × (D.honest begun.old.b ↔ D.honest begun.new.b) }
         ensures ok { IsRunning D.state D.honest self.now → D.honest begun.old.a → D.honest begun.old.b

@@ -93,17 +93,17 @@ impl<D: Device> Coordinator<D> {
     /// the horizon, a staged one too, are in it no more. It takes the memory of one batch, before any call of a device.
     ///
     /// `Down` as of a flush: the next opening finds the old records, with what was staged or without, or the checkpoint. `NoMemory`, and `Full`
-    /// behind the last generation: nothing is changed.
+    /// after the last generation: nothing is changed.
     pub fn checkpoint(&mut self, alloc: Global) -> Result<(), Refusal>
         ensures honest { (D.honest self.old.a ↔ D.honest self.new.a) × (D.honest self.old.b ↔ D.honest self.new.b) }
         ensures any_moment { IsRunning D.state D.honest self.old → LeavesEach D.moment D.left_since self.old.a self.old.b self.new.a self.new.b (HasOldNewOrPoint self.old) }
         ensures ok { IsRunning D.state D.honest self.old → OnOk result (IsRunning D.state D.honest self.new × (self.new.durable ≡ next_checkpoint self.old) × (self.new.staged ≡ []) × (self.new.is_down ≡ false)) }
         ensures keeps { KeepsOpen self.old self.new }
 
-        // Where it is refused, the list of the current bank ends where it did, or, after `Down`, behind what was staged.
+        // If it is refused, the list of the current bank ends where it did, or, after `Down`, after what was staged.
         ensures moved { OnErr result (StaysOrGains self.old.end self.old.staged self.new.end) }
 
-        // Where it is down, no call is made, and behind the last generation none either.
+        // If it is down, no call is made, and after the last generation none either.
         ensures down { self.old.is_down ≡ true → (result ≡ Err Refusal.Down) × (self.new ≡ self.old) }
         ensures last { IsRunning D.state D.honest self.old → greatest_number ≤ generation_of self.old.durable → self.new ≡ self.old }
         ensures full { IsRunning D.state D.honest self.old → IsErrOf result Refusal.Full → greatest_number ≤ generation_of self.old.durable }

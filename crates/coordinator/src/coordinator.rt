@@ -75,7 +75,7 @@ impl<D: Device> Coordinator<D> {
         ensures counts { ((D.state self.old.a).failures ≤ (D.state self.new.a).failures) × ((D.state self.old.b).failures ≤ (D.state self.new.b).failures) }
         ensures up { OnOk result ((self.old.is_down ≡ false) × (self.new.is_down ≡ false) × (self.new.staged ≡ [])) }
 
-        // Where it is down, or nothing is staged, no call of a device is made.
+        // If it is down, or nothing is staged, no call of a device is made.
         ensures down { self.old.is_down ≡ true → IsErr result × (self.new ≡ self.old) }
         ensures quiet { self.old.staged ≡ [] → self.new ≡ self.old }
         ensures cause { OnErr result ((self.old.is_down ≡ true) ⊎ HasCause D.state D.honest (coordinator_journal self.old) (coordinator_journal self.new)) }

@@ -51,7 +51,7 @@ pub struct NotDecided {
 }
 
 impl NotDecided {
-    /// Only spends it: the write stays in doubt where it is prepared.
+    /// Only spends it: the write stays in doubt if it is prepared.
     pub fn leave(self) {
         let NotDecided {
             refusal: _,

@@ -90,8 +90,8 @@ impl<D: Device> Coordinator<D> {
     /// Decides an open write, at the next place, by one vote of each shard that takes part in it. The decision is staged: it is no promise
     /// before a flush. Several can be staged and flushed together.
     ///
-    /// Nothing has changed after a refusal; they are tested in this order: `Down`, `Aborted` where the write is not open (or its id is one
-    /// of another write, which no coordinator of this store gave), `Full` where the batch or the log is, `NoMemory`. The votes come back,
+    /// Nothing has changed after a refusal; they are tested in this order: `Down`, `Aborted` if the write is not open (or its id is one
+    /// of another write, which no coordinator of this store gave), `Full` if the batch or the log is, `NoMemory`. The votes come back,
     /// and the intent after the last two.
     pub fn decide(&mut self, intent: Intent, votes: Vec<Vote>) -> Result<Decided, NotDecided>
         requires voted { HaveVoted self.old.me.shards intent.write votes.items }

@@ -9,7 +9,7 @@ use ledger::Ledger;
 use records::Record;
 use std::marker::Model;
 
-/// The records that are left: those before the decisions, and the decisions behind a place. Nothing is copied for them.
+/// The records that are left: those before the decisions, and the decisions after a place. Nothing is copied for them.
 #[derive(Drop)]
 pub(crate) struct Known<'a> {
     heads: &'a [Record],
@@ -32,7 +32,7 @@ impl<'a> Model for Known<'a> {
 }
 
 impl<'a> Known<'a> {
-    /// The decisions behind a place, behind these records.
+    /// The decisions after a place, after these records.
     pub fn new(heads: &'a [Record], ledger: &'a Ledger, told: u64) -> Known<'a>
         requires spelled { AreRecords heads.now }
         requires behind { ledger.now.base ≤ told }

@@ -91,7 +91,7 @@ impl<D: Device> Coordinator<D> {
 }
 
 impl<D: Device> Coordinator<Away<D>> {
-    /// The devices come back, and the room for the next flight. Where the flight's flush went well, what flew is durable: its decisions are
+    /// The devices come back, and the room for the next flight. If the flight's flush went well, what flew is durable: its decisions are
     /// kept, and its horizon counts. Else the coordinator is down, and has to be opened again.
     pub fn land(self, flown: Journal<D>, flying: Flying) -> (Coordinator<D>, BatchRoom)
         requires sent { Flies self.staged flying.sent }

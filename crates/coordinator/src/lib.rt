@@ -2,7 +2,7 @@
 //!
 //! Keeps: its memory is what its durable and staged records stand for, above the durable horizon.
 //! Never: looks at the conditions of a write that it decides: the votes of the shards are its word for them.
-//! Callers rely on: an id is given once; a place is told as kept only where every stop leaves its decision; after `Down` it answers
+//! Callers rely on: an id is given once; a place is told as kept only if every stop leaves its decision; after `Down` it answers
 //! nothing more until it is opened again.
 //!
 //! Its devices may be lent, while a flight makes durable what was staged: it goes on without them, and `land` takes them back. No program does

@@ -53,8 +53,8 @@ impl NodeKind for CoordinatorKind {
 impl<D: Device> Coordinator<D> {
     /// Opens the coordinator with this identity: replays its journal, and makes one `Epoch` record more durable.
     ///
-    /// Each refusal gives the devices back: `Down` where a call of a device failed, or the current bank has no room for the record; `NoMemory`; `Full`
-    /// after the last epoch; and `Damaged` where the devices have no records of this coordinator of this store, a condition that does not
+    /// Each refusal gives the devices back: `Down` if a call of a device failed, or the current bank has no room for the record; `NoMemory`; `Full`
+    /// after the last epoch; and `Damaged` if the devices have no records of this coordinator of this store, a condition that does not
     /// hold at its decision among the causes.
     pub fn open(alloc: Global, a: D, b: D, me: Identity) -> Result<Coordinator<D>, Refused<D>>
         requires coordinator { me.node ≡ coordinator_number }
@@ -62,7 +62,7 @@ impl<D: Device> Coordinator<D> {
         ensures ok { D.honest a → D.honest b → IfOk result (λ s. IsOpenedCoordinator D.state D.honest a b me s) }
         ensures fresh { IfOk result (λ s. (s.staged ≡ []) × (s.is_down ≡ false) × (s.me ≡ me) × (s.open_ids ≡ []) × (s.given ≡ 0)) }
 
-        // Damaged exactly where there are no records of this coordinator.
+        // Damaged exactly if there are no records of this coordinator.
         ensures damaged { D.honest a → D.honest b → IfErr result (λ e. e.refusal ≡ Refusal.Damaged → (rs : List AnyRecord) → found (D.state a).seen (D.state b).seen ≡ Some rs → IsCoordinatorImage me rs → ⊥) }
         ensures full { D.honest a → D.honest b → IfErr result (λ e. e.refusal ≡ Refusal.Full → (rs : List AnyRecord) × (found (D.state a).seen (D.state b).seen ≡ Some rs)
             × IsCoordinatorImage me rs × ((coordinator_state rs).epoch ≡ greatest_number)) }

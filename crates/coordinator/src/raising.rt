@@ -54,7 +54,7 @@ fn rises_to(rising: Option<u64>, place: u64) -> bool
 impl<D: Device> Coordinator<D> {
     /// Raises the horizon to a kept place, to which each shard has settled. The record is staged, unless a staged one names the place or a
     /// higher one; the horizon counts once it is durable. Nothing has changed after a refusal: `Down`, `Collected` below the durable
-    /// horizon, `Future` above the last durable decision, `Full` where the batch is. What was handed in comes back.
+    /// horizon, `Future` above the last durable decision, `Full` if the batch is. What was handed in comes back.
     pub fn raise(&mut self, place: u64, settled: Vec<Settled>) -> Result<(), NotRaised>
         requires settled { HaveSettled self.old.me.shards place settled.items }
         ensures ok { IsRunning D.state D.honest self.old → OnOk result (RaisesAt self.old place self.new × (place ≤ end_of (kept_of self.old)) × IsRunning D.state D.honest self.new) }

@@ -47,7 +47,7 @@ pub enum Inquiry {
 }
 
 impl<D: Device> Coordinator<D> {
-    /// What became of a decision: kept only where every stop leaves it. It answers also after a device failed.
+    /// What became of a decision: kept only if every stop leaves it. It answers also after a device failed.
     pub fn outcome(&self, decided: Decided) -> Outcome
         ensures kept { (place : _) → IsRunning D.state D.honest self.now → result ≡ Kept place → (place ≡ decided.place) × IsKeptBy self.now decided }
         ensures later { (d : _) → IsRunning D.state D.honest self.now → result ≡ Later d → (d ≡ decided) × IsStagedBy self.now decided }
@@ -80,8 +80,8 @@ impl<D: Device> Coordinator<D> {
         id.epoch < self.epoch || (id.epoch == self.epoch && id.number <= self.given)
     }
 
-    /// What became of the write with this id: a commit only by a durable decision above the horizon, an abort only where it was given out and is
-    /// neither open nor decided above the horizon. `Down` where a device failed.
+    /// What became of the write with this id: a commit only by a durable decision above the horizon, an abort only if it was given out and is
+    /// neither open nor decided above the horizon. `Down` if a device failed.
     pub fn inquire(&self, id: WriteId) -> Result<Inquiry, Refusal>
         ensures commit { (place : _) → IsRunning D.state D.honest self.now → result ≡ Ok (Commit place) → FindsAt self.now id place }
         ensures abort { (v : _) → IsRunning D.state D.honest self.now → result ≡ Ok (Abort v) → (v.id ≡ id) × FindsNone self.now id }
@@ -112,7 +112,7 @@ impl<D: Device> Coordinator<D> {
         }
     }
 
-    /// The durable decisions behind `from`, up to `to` and at most 256: `Future` where `to` is above the last of them, `Collected` where
+    /// The durable decisions after `from`, up to `to` and at most 256: `Future` if `to` is above the last of them, `Collected` if
     /// `from` is below the durable horizon, `Down`, `NoMemory`.
     pub fn batch(&self, alloc: Global, from: u64, to: u64) -> Result<Batch, Refusal>
         requires { from ≤ to }
@@ -136,7 +136,7 @@ impl<D: Device> Coordinator<D> {
         Ok(Batch::from_log(&self.journal, from, writes))
     }
 
-    /// How many decisions there are, how many every stop leaves, and the durable horizon. `Down` where a device failed.
+    /// How many decisions there are, how many every stop leaves, and the durable horizon. `Down` if a device failed.
     pub fn heads(&self) -> Result<Heads, Refusal>
         ensures ok { IsRunning D.state D.honest self.now → IfOk result (λ h. h ≡ heads_of self.now) }
         ensures down { IsErr result ↔ (self.now.is_down ≡ true) }

@@ -35,7 +35,7 @@ still_there (a ∷ xs) [] n x p is = absurd (cc (p.1))
 still_there (a ∷ xs) (b ∷ ys) zero x p is = ap Some (let e : b ≡ a = cc (p.1) in e) ∙ is
 still_there (a ∷ xs) (b ∷ ys) (suc n) x p is = still_there xs ys n x (p.0, cc (p.1)) is
 
--- what holds behind a call that went well holds where the node is up, since one that did not puts it down
+-- what holds after a call that went well holds if the node is up, since one that did not puts it down
 pub on_up : {U E P : Type 0} (Q : E → Type 0) {down : Bool} (r : Result U E) → OnOk r P → IfErr r (λ e. Q e × (down ≡ true)) → down ≡ false → P
 on_up Q (Ok u) ok err up = ok
 on_up Q (Err e) ok err up = absurd (true≢false (sym err.1 ∙ up))

@@ -21,7 +21,7 @@ up_is_opened (Some (refused e a b)) up = absurd up
 up_is_opened None up = absurd up
 
 module _ {D : Type 0} (state : D → State) (honest : D → Type 0) where
-  -- Given a shard that is up, and what stays where its devices leave
+  -- Given a shard that is up, and what stays if its devices leave
   module _ (v : ShardView D) (u : ShardView (Away D)) (flight : View D) (flying : OfShard) (lends : ShardLends state honest v u flight flying) (sound : IsSoundShard state honest v) (up : v.is_down ≡ false) where
     ready_shard : IsReady state honest flight (Shard flying)
     ready_shard = subst (λ (j : View D). IsReady state honest j (Shard flying)) (sym lends.flight_is) (record {

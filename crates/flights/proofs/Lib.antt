@@ -1,8 +1,6 @@
 mod Words
 pub mod Rows
-pub mod ToldRows
 pub mod Called
-pub mod Pointed
 pub mod Launched
 pub mod Landed
 pub mod LogLaunched

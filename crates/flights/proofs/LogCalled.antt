@@ -1,93 +1,21 @@
--- A call that is no flush leaves a coordinator up whose devices are out, and stages behind what is staged; and what its reply tells a writer.
-use Rattle.std.proofs.Common.{◌≡◌, ⊎_elim, false, ℕ, List, [], ◌++◌, Result, Option, Some, Ok, Err, refl, sym, ◌∙◌, ap, subst}
-use Rattle.std.proofs.lemmas.List.{append-nil}
-use Rattle.std.proofs.lemmas.Bool.{false_from_ne_true}
-use mathlib.Core.List.{IsPrefix}
-use Rattle.flights.proofs.Words.{Answered, Away, coordinator, CoordinatorView, IntentValue, IsSound, IsSoundThere, Launch, LogStaysIn, NodeView, prefix_trans, Record, Refusal, refused, Reply, State, VerdictValue}
-use Rattle.tuples.specs.Writes.{WriteValue}
-use Rattle.decisions.specs.Standing.{DecidedValue}
-use Rattle.decisions.specs.Values.{SettledValue, VoteValue}
-use Rattle.coordinator.specs.declared.decided.NotDecided.{NotDecided}
-use Rattle.coordinator.specs.declared.raising.NotRaised.{NotRaised}
-use Rattle.calls.specs.declared.call.NodeCall.TheVariants.{Coordinator}
-use Rattle.calls.specs.declared.call.CoordinatorCall.{CoordinatorCall}
-use Rattle.calls.specs.declared.call.CoordinatorCall.TheVariants.{Begin, Heads, Batch, Decide, Outcome, Abort, Inquire, Raise, Flush, Checkpoint}
-use Rattle.calls.specs.declared.reply.Reply.TheVariants.{Coordinator as from_coordinator}
-use Rattle.calls.specs.declared.reply.CoordinatorReply.{CoordinatorReply}
-use Rattle.calls.specs.declared.reply.CoordinatorReply.TheVariants as told
-use Rattle.calls.specs.Asking.{CoordinatorAnswers}
-use Rattle.calls.specs.CoordinatorAnswers.{AbortAnswers, BeginAnswers, DecideAnswers, RaiseAnswers}
-use Rattle.sides.specs.CoordinatorSides.{AnsweredThere}
-use Rattle.flights.specs.LogPlaces.{is_log_flush}
+-- A call of the coordinator whose devices are out.
+use Rattle.std.proofs.Common.{ℕ, List, Option, Some, ◌∙◌}
+use Rattle.flights.proofs.Words.{Away, coordinator, Launch, LogStaysIn, NodeView, prefix_trans}
+use Rattle.sides.specs.CoordinatorSides.{LogSide}
+use Rattle.sides.specs.Lending.{LogStagesMoreIn}
+use Rattle.flights.specs.Flights.{IsLogOutOn}
 
-module _ {D : Type 0} (state : D → State) (honest : D → Type 0) (moment : D → ℕ) (left_since : D → ℕ → List ℕ → Type 0) (store shards : ℕ) where
-  -- what was staged is staged before anything else, and it is up where it was
-  pub record LogGoesOn (old new : CoordinatorView D) : Type 0 where
-    pub durable : new.durable ≡ old.durable
-    pub staged : IsPrefix old.staged new.staged
-    pub is_down : new.is_down ≡ old.is_down
+-- what left stays the first of what is staged
+log_stays_behind : {D : Type 0} (x : Launch) (old new : Option (NodeView (Away D))) → LogStagesMoreIn old new → LogStaysIn x old → LogStaysIn x new
+log_stays_behind x (Some (coordinator old)) (Some (coordinator new)) more stays = record {
+  of = stays.of;
+  durable = more.0 ∙ stays.durable;
+  staged = prefix_trans x.staged old.staged new.staged stays.staged more.1;
+  up = more.2 ∙ stays.up;
+}
+log_stays_behind x (Some (coordinator old)) new more stays = absurd more
+log_stays_behind x old new more stays = absurd stays
 
-  -- Given a coordinator before and after a call
-  module _ (old new : CoordinatorView D) (sound : IsSound state honest store shards old) where
-    unchanged : new ≡ old → LogGoesOn old new
-    unchanged same = subst (λ (v : CoordinatorView D). LogGoesOn old v) (sym same) (record { durable = refl; staged = ([], append-nil old.staged); is_down = refl })
-
-    -- one record more, or none
-    more : (rs : List Record) → new.durable ≡ old.durable → new.staged ≡ old.staged ++ rs → new.is_down ≡ old.is_down → LogGoesOn old new
-    more rs durable staged down = record { durable = durable; staged = (rs, sym staged); is_down = down }
-
-    begun : (write : WriteValue) (r : Result IntentValue Refusal) → BeginAnswers state honest old write r new → LogGoesOn old new
-    begun write (Ok i) a =
-        let begins = (a.ok (sound.running (false_from_ne_true old.is_down (λ down. cc (a.down.1 down))))).0 in
-        more [] (ap (λ (v : CoordinatorView D). v.durable) begins.new_is) (ap (λ (v : CoordinatorView D). v.staged) begins.new_is ∙ sym (append-nil old.staged)) (ap (λ (v : CoordinatorView D). v.is_down) begins.new_is)
-    begun write (Err e) a = unchanged a.err.0
-
-    decided : (intent : IntentValue) (votes : List VoteValue) (r : Result DecidedValue NotDecided) → DecideAnswers state honest old intent votes r new → LogGoesOn old new
-    decided intent votes (Ok d) a =
-        let decides = (a.ok (sound.running (false_from_ne_true old.is_down (λ down. cc (a.was_up down))))).0 in
-        more _ (ap (λ (v : CoordinatorView D). v.durable) decides.new_is) (ap (λ (v : CoordinatorView D). v.staged) decides.new_is) (ap (λ (v : CoordinatorView D). v.is_down) decides.new_is)
-    decided intent votes (Err e) a = unchanged a.same
-
-    aborted : (intent : IntentValue) (r : Result VerdictValue Refusal) → AbortAnswers state honest old intent r new → LogGoesOn old new
-    aborted intent (Ok v) a =
-        let aborts = (a.ok (sound.running (false_from_ne_true old.is_down (λ down. cc (a.down.1 down))))).1 in
-        more [] (ap (λ (v : CoordinatorView D). v.durable) aborts.new_is) (ap (λ (v : CoordinatorView D). v.staged) aborts.new_is ∙ sym (append-nil old.staged)) (ap (λ (v : CoordinatorView D). v.is_down) aborts.new_is)
-    aborted intent (Err e) a = unchanged a.err.0
-
-    raised : (place : ℕ) (settled : List SettledValue) (r : Result (Unit {0}) NotRaised) → RaiseAnswers state honest old place settled r new → LogGoesOn old new
-    raised place settled (Ok done) a =
-        let raises = (a.ok (sound.running (false_from_ne_true old.is_down (λ down. cc (a.was_up down))))).0 in
-        ⊎_elim
-        (λ one. more _ (ap (λ (v : CoordinatorView D). v.durable) one.1) (ap (λ (v : CoordinatorView D). v.staged) one.1) (ap (λ (v : CoordinatorView D). v.is_down) one.1))
-        (λ none. unchanged none.1)
-        raises.new_is
-    raised place settled (Err e) a = unchanged a.err.0
-
-  goes_on : (old new : CoordinatorView D) (call : CoordinatorCall) (reply : CoordinatorReply) → is_log_flush call ≡ false → IsSound state honest store shards old → CoordinatorAnswers state honest moment left_since old call reply new → LogGoesOn old new
-  goes_on old new (Begin write) (told.Begin r) calm sound a = begun old new sound write r a
-  goes_on old new Heads (told.Heads r) calm sound a = unchanged old new sound a.0
-  goes_on old new (Batch from to) (told.Batch r) calm sound a = unchanged old new sound a.0
-  goes_on old new (Decide intent votes) (told.Decide r) calm sound a = decided old new sound intent votes.items r a
-  goes_on old new (Outcome d) (told.Outcome r) calm sound a = unchanged old new sound a.0
-  goes_on old new (Abort intent) (told.Abort r) calm sound a = aborted old new sound intent r a
-  goes_on old new (Inquire id) (told.Inquire r) calm sound a = unchanged old new sound a.0
-  goes_on old new (Raise place settled) (told.Raise r) calm sound a = raised old new sound place settled.items r a
-  goes_on old new Flush reply calm sound a = absurd (cc calm)
-  goes_on old new Checkpoint reply calm sound a = absurd (cc calm)
-  goes_on old new call reply calm sound a = absurd a
-
--- a coordinator whose devices are out
-module _ {D : Type 0} (state : Away D → State) (honest : Away D → Type 0) (moment : Away D → ℕ) (left_since : Away D → ℕ → List ℕ → Type 0) (store shards : ℕ) (x : Launch) where
-  behind_still : (call : CoordinatorCall) (old : NodeView (Away D)) (reply : Reply) (new : NodeView (Away D)) → is_log_flush call ≡ false → IsSoundThere state honest store shards (Some old)
-      → Answered state honest moment left_since old (Coordinator call) reply new → LogStaysIn x (Some old) → LogStaysIn x (Some new)
-  behind_still call (coordinator old) (from_coordinator reply) (coordinator new) calm sound a stays =
-      let goes = goes_on state honest moment left_since store shards old new call reply calm sound a in
-      record { of = stays.of; durable = goes.durable ∙ stays.durable; staged = prefix_trans x.staged old.staged new.staged stays.staged goes.staged; up = goes.is_down ∙ stays.up }
-  behind_still call (refused e y z) reply new calm sound a stays = absurd stays
-  behind_still call old reply new calm sound a stays = absurd a
-
-  -- what left stays behind
-  pub log_stays_behind : (call : CoordinatorCall) (old new : Option (NodeView (Away D))) (reply : Reply) → is_log_flush call ≡ false → IsSoundThere state honest store shards old → AnsweredThere state honest moment left_since old call reply new
-      → LogStaysIn x old → LogStaysIn x new
-  log_stays_behind call (Some old) (Some new) reply calm sound a stays = behind_still call old reply new calm sound a stays
-  log_stays_behind call old new reply calm sound a stays = absurd a
+-- it stays as they left it, and may have staged more
+pub log_stays_out : {D : Type 0} (launches : List Launch) (old new : LogSide (Away D)) (launch : ℕ) → LogStagesMoreIn old.node new.node → IsLogOutOn launches old launch → IsLogOutOn launches new launch
+log_stays_out launches old new launch more was = (was.0, was.1, log_stays_behind was.0 old.node new.node more was.2)

@@ -13,7 +13,7 @@ log_up_is_opened (Some (refused e a b)) up = absurd up
 log_up_is_opened None up = absurd up
 
 module _ {D : Type 0} (state : D → State) (honest : D → Type 0) (store shards : ℕ) where
-  -- Given a coordinator that is up, and what stays where its devices leave
+  -- Given a coordinator that is up, and what stays if its devices leave
   module _ (v : CoordinatorView D) (u : CoordinatorView (Away D)) (flight : View D) (flying : OfCoordinator) (lends : CoordinatorLends state honest v u flight flying) (up : v.is_down ≡ false) where
     ready_one : IsSound state honest store shards v → IsReady state honest flight (Coordinator flying)
     ready_one sound = subst (λ (j : View D). IsReady state honest j (Coordinator flying)) (sym lends.flight_is) (record {

@@ -1,5 +1,5 @@
 -- The coordinator under its lock, as its callers see it, whether its devices are here or out.
-use Rattle.std.specs.Prelude.{◌≡◌, ◌≤◌, ◌<◌, ◌+◌, ◌^◌, ℕ, Bool, true, false, List, [], length, Option, Some, None}
+use Rattle.std.specs.Prelude.{◌≡◌, ◌≤◌, ◌<◌, ◌+◌, ◌^◌, ℕ, List, [], length, Option, Some, None}
 use Rattle.away.specs.declared.away.Away.{Away}
 use Rattle.away.specs.Aways.{lent_honest, lent_state}
 use Rattle.tuples.specs.declared.entry.Entry.{Entry}
@@ -7,7 +7,7 @@ use Rattle.tuples.specs.Writes.{WriteValue}
 use Rattle.device.specs.Device.{State}
 use Rattle.calls.specs.declared.call.NodeCall.{NodeCall}
 use Rattle.calls.specs.declared.call.CoordinatorCall.{CoordinatorCall}
-use Rattle.calls.specs.declared.call.CoordinatorCall.TheVariants.{Checkpoint, Flush}
+use Rattle.calls.specs.declared.call.CoordinatorCall.TheVariants.{Checkpoint}
 use Rattle.calls.specs.declared.reply.Reply.{Reply}
 use Rattle.flow_ties.specs.Writes.{TellsWriter}
 use Rattle.laws.specs.Worlds.{coordinator_node}
@@ -38,12 +38,6 @@ abbrev pub log_bank_len_at : {D : Type 0} → LogPlaceView D → ℕ
 log_bank_len_at (here side) = bank_len_in side.node
 log_bank_len_at (out side launch) = bank_len_in side.node
 log_bank_len_at nowhere = 0
-
--- a call that needs the devices
-abbrev pub is_log_flush : CoordinatorCall → Bool
-is_log_flush Flush = true
-is_log_flush Checkpoint = true
-is_log_flush call = false
 
 -- all decisions that were once staged
 abbrev pub tried_at : {D : Type 0} → LogPlaceView D → List Attempt

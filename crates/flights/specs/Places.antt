@@ -1,5 +1,5 @@
 -- A node under its lock, whether its devices are here or out; and a shard there, as its callers see it.
-use Rattle.std.specs.Prelude.{◌≡◌, ℕ, Bool, true, false, List, Option, Some, None, Ok}
+use Rattle.std.specs.Prelude.{◌≡◌, ℕ, List, Option, Some, None, Ok}
 use Rattle.away.specs.Aways.{lent_honest, lent_state}
 use Rattle.away.specs.declared.away.Away.{Away}
 use Rattle.tuples.specs.declared.entry.Entry.{Entry}
@@ -7,7 +7,7 @@ use Rattle.records.specs.Replays.{Identity}
 use Rattle.published.specs.Known.{Known}
 use Rattle.device.specs.Device.{State}
 use Rattle.calls.specs.declared.call.ShardCall.{ShardCall}
-use Rattle.calls.specs.declared.call.ShardCall.TheVariants.{Flush, Checkpoint}
+use Rattle.calls.specs.declared.call.ShardCall.TheVariants.{Checkpoint}
 use Rattle.calls.specs.declared.reply.Reply.{Reply}
 use Rattle.calls.specs.declared.reply.Reply.TheVariants.{Shard as from_shard}
 use Rattle.calls.specs.declared.reply.ShardReply.TheVariants as told_by
@@ -67,12 +67,6 @@ abbrev pub bank_len_at : {D : Type 0} → PlaceView D → ℕ
 bank_len_at (here side) = bank_len_in side.node
 bank_len_at (out side launch) = bank_len_in side.node
 bank_len_at nowhere = 0
-
--- a call that needs the devices
-abbrev pub is_flush : ShardCall → Bool
-is_flush Flush = true
-is_flush Checkpoint = true
-is_flush call = false
 
 -- that a flush went well is told of a shard that is up, or whose devices are out
 abbrev pub TellsUp : {D : Type 0} → PlaceView D → Reply → Type 0

@@ -5,26 +5,15 @@ ghost use Rattle.calls.specs.Refusing.{Notes};
 ghost use Rattle.calls.specs.declared.call.CoordinatorCall.TheVariants.{Checkpoint as log_checkpoint_call};
 ghost use Rattle.calls.specs.declared.call.NodeCall.TheVariants.{Coordinator as of_coordinator, Shard as of_shard};
 ghost use Rattle.calls.specs.declared.call.ShardCall.TheVariants.{Checkpoint as checkpoint_call};
-ghost use Rattle.sides.specs.Lending.{IsSoundIn};
-ghost use Rattle.sides.specs.Sides.{IsLater, SideAnswers};
+ghost use Rattle.sides.specs.Sides.{IsLater};
 ghost use Rattle.flights.specs.LogPlaces.{ChecksLogPointThere, log_bank_len_at};
 ghost use Rattle.flights.specs.Places.{ChecksPointThere, IsOutThere, number_at};
 
 use crate::berth::Berth;
 use crate::{CoordinatorPlace, ShardPlace};
-use calls::{Reply, Told};
+use calls::{Reply, ShardCall, Told};
 use device::Device;
-use sides::{Lists, Pass, Room, ShardSide};
-
-// The checkpoint of a shard that has its devices. It is as sound as before.
-fn checkpoint_here<D: Device, B: Room>(side: &mut ShardSide<D, B>, told: &mut Told) -> Reply
-    ensures answers { SideAnswers D.state D.honest D.moment D.left_since side.old checkpoint_call result side.new }
-    ensures pass { side.new.pass ≡ side.old.pass }
-    ensures sound { IsSoundIn D.state D.honest side.old.node → IsSoundIn D.state D.honest side.new.node }
-    ensures told { Notes told.old result told.new }
-{
-    side.checkpoint(told)
-}
+use sides::{Lists, Pass, Room};
 
 impl<D: Device, B: Room> ShardPlace<D, B> {
     /// Replaces the records of the shard by a checkpoint of what it knows. None if its devices are out: then all stays as it is.
@@ -35,7 +24,7 @@ impl<D: Device, B: Room> ShardPlace<D, B> {
         ensures out { IfNone result (IsOutThere self.old × (self.new ≡ self.old) × (told.new ≡ told.old)) }
     {
         match &mut self.berth {
-            Some(Berth::Here(side, _)) => Some(checkpoint_here(side, told)),
+            Some(Berth::Here(side, _)) => Some(side.make(told, ShardCall::Checkpoint)),
             Some(Berth::Out(_, _)) => None,
             None => unreachable!(),
         }

@@ -1,14 +1,16 @@
 // What lies under the lock of the coordinator.
-ghost use Rattle.std.specs.Prelude.{◌≡◌, ◌↔◌, IsTrue, false};
+ghost use Rattle.std.specs.Prelude.{◌≡◌, ◌↔◌, ◌++◌, IsTrue, false};
 ghost use Rattle.calls.specs.Asking.{MayAskCoordinator};
+ghost use Rattle.calls.specs.Belonging.{IsReplyTo};
 ghost use Rattle.calls.specs.Refusing.{Notes};
 ghost use Rattle.calls.specs.declared.call.NodeCall.TheVariants.{Coordinator as of_coordinator};
-ghost use Rattle.flights.specs.LogPlaces.{HasCount, LogPlaceAnswers, TellsWriters, is_log_flush, tried_at};
+ghost use Rattle.flights.specs.LogPlaces.{HasCount, LogPlaceAnswers, tried_at};
 ghost use Rattle.flights.specs.Places.{here};
-ghost use Rattle.flights.specs.Serving.{KnowsMore, Serves};
+ghost use Rattle.flights.specs.Serving.{KnowsMore};
+ghost use Rattle.sides.specs.CoordinatorSides.{TellsOf, is_log_flush, tried_by, write_of};
+ghost use Rattle.sides.specs.Sides.{IsLater};
 
 use crate::berth::Berth;
-use crate::coordinator_serving::{serve_log_here, serve_log_out};
 use crate::waiting::Lands;
 use away::Away;
 use calls::{CoordinatorCall, Reply, Told};
@@ -89,32 +91,8 @@ impl<D: Device, B: Room> CoordinatorPlace<D, B> {
         }
     }
 
-    // Makes a call that is no flush, wherever its devices are.
-    fn serve(
-        &mut self,
-        lists: &Lists<B>,
-        caller: &mut Caller<B>,
-        told: &mut Told,
-        call: CoordinatorCall,
-    ) -> Reply
-        requires owed { MayAskCoordinator B.shards call }
-        requires counted { HasCount (tried_at self.old) }
-        requires no_flush { is_log_flush call ≡ false }
-        ensures answers { LogPlaceAnswers D.state D.honest D.moment D.left_since self.old call result self.new }
-        ensures serves { Serves B.rests B.shards caller.old.pass caller.new.pass (of_coordinator call) result }
-        ensures tried { KnowsMore caller.old.tried caller.new.tried }
-        ensures tells { B.rests → TellsWriters caller.old.pass.seen caller.new.tried.seen caller.new.pass.seen (of_coordinator call) result }
-        ensures told { Notes told.old result told.new }
-    {
-        match &mut self.berth {
-            Some(Berth::Here(side, _)) => { serve_log_here(lists, side, caller, told, call) }
-            Some(Berth::Out(side, _)) => { serve_log_out(lists, side, caller, told, call) }
-            None => unreachable!(),
-        }
-    }
-
-    /// Makes a call that is no flush, wherever its devices are. What it tells of the list is of what the caller's pass has seen then; and a decision that it tells
-    /// as kept is of the write that the caller knows as its own. It has to be asked first whether one decision more can be counted.
+    /// Makes a call that is no flush, wherever its devices are. What it tells is of the list, and of the decisions, that the caller then knows. It has to be
+    /// asked first whether one decision more can be counted.
     pub fn ask(
         &mut self,
         lists: &Lists<B>,
@@ -126,13 +104,19 @@ impl<D: Device, B: Room> CoordinatorPlace<D, B> {
         requires counted { HasCount (tried_at self.old) }
         requires no_flush { is_log_flush call ≡ false }
         ensures answers { LogPlaceAnswers D.state D.honest D.moment D.left_since self.old call result self.new }
-        ensures serves { Serves B.rests B.shards caller.old.pass caller.new.pass (of_coordinator call) result }
+        ensures belongs { IsReplyTo (of_coordinator call) result }
+        ensures caller { IsLater caller.old.pass caller.new.pass }
         ensures tried { KnowsMore caller.old.tried caller.new.tried }
-        ensures tells { B.rests → TellsWriters caller.old.pass.seen caller.new.tried.seen caller.new.pass.seen (of_coordinator call) result }
+        ensures known { caller.new.tried.seen ≡ tried_at self.old ++ tried_by (write_of call) result }
+        ensures tells { B.rests → TellsOf caller.new.pass.seen caller.new.pass.horizon caller.new.tried.seen call result }
         ensures told { Notes told.old result told.new }
     {
         self.note_staging(&mut caller.tried, &call);
-        self.serve(lists, caller, told, call)
+        match &mut self.berth {
+            Some(Berth::Here(side, _)) => side.ask(lists, caller, told, call),
+            Some(Berth::Out(side, _)) => side.ask(lists, caller, told, call),
+            None => unreachable!(),
+        }
     }
 
     // Notes by which flight goes what the call stages, if it stages anything.

@@ -11,7 +11,7 @@ ghost use Rattle.flights.specs.Places.{HasLanded, HasRestarted, IsOutFor, TellsU
 use crate::berth::Berth;
 use crate::{Flown, ShardPlace};
 use away::Away;
-use calls::{Reply, ShardReply, Told};
+use calls::{Reply, ShardCall, ShardReply, Told};
 use device::Device;
 use journal::BatchRoom;
 use published::{RestingPass, SessionPass};
@@ -108,7 +108,7 @@ impl<D: Device, B: Room> ShardPlace<D, B> {
                 if side.is_up() {
                     return Reply::Shard(ShardReply::Flush(Ok(())));
                 }
-                side.flush(told)
+                side.make(told, ShardCall::Flush)
             }
             Some(Berth::Out(_, _)) => Reply::Shard(ShardReply::Flush(Ok(()))),
             None => unreachable!(),

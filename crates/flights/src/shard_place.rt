@@ -1,20 +1,20 @@
 // What lies under the lock of a shard.
-ghost use Rattle.std.specs.Prelude.{◌≡◌, ◌<◌, true, false};
+ghost use Rattle.std.specs.Prelude.{◌≡◌, ◌<◌, true, false, List, ℕ};
+ghost use Rattle.away.specs.Aways.{lent_honest, lent_state};
 ghost use Rattle.calls.specs.Asking.{MayAskShard};
 ghost use Rattle.calls.specs.Belonging.{IsReplyTo};
 ghost use Rattle.calls.specs.Reading.{is_read, read_reply};
 ghost use Rattle.calls.specs.Refusing.{Notes};
 ghost use Rattle.calls.specs.declared.call.NodeCall.TheVariants.{Shard as of_shard};
 ghost use Rattle.calls.specs.declared.reply.Reply.TheVariants.{Shard as from_shard};
-ghost use Rattle.flow_ties.specs.Cares.{HandsOver};
-ghost use Rattle.flow_ties.specs.Telling.{IsTold};
 ghost use Rattle.laws.specs.Worlds.{shard_node};
-ghost use Rattle.sides.specs.Sides.{IsLater};
+ghost use Rattle.sides.specs.Sides.{HandsSeen, IsLater, SideAnswers, TellsRows, is_flush};
+ghost use Rattle.sides.specs.declared.launch.Launch.{Launch as AnyLaunch};
+ghost use Rattle.flights.specs.Flights.{IsOutOn};
 ghost use Rattle.ties.specs.ShardTies.{RowsAnywhere};
-ghost use Rattle.flights.specs.Places.{HasOpened, PlaceAnswers, bank_len_at, is_flush, number_at};
+ghost use Rattle.flights.specs.Places.{HasOpened, PlaceAnswers, bank_len_at, number_at};
 
 use crate::berth::Berth;
-use crate::serving::{look, serve_here, serve_out};
 use away::Away;
 use calls::{Reply, ShardCall, Told};
 use device::Device;
@@ -48,6 +48,26 @@ impl<D: Device, B: Room> Model for ShardPlace<D, B> {
     ghost view = { λ p. place_of p.berth };
 
     ghost invariant = { λ p. (p.pass.table ≡ B.launches) × IsBerthed D.state D.honest B.rests B.shards p.pass.seen p.berth };
+}
+
+// Makes the call of a shard whose devices are out. What left with them stays the first of what is staged.
+fn ask_out<D: Device, B: Room, R: Wait>(
+    rt: &R,
+    lists: &Lists<B>,
+    side: &mut ShardSide<Away<D>, B>,
+    pass: &mut Pass<B>,
+    told: &mut Told,
+    call: ShardCall,
+) -> Reply
+    requires owed { MayAskShard B.shards side.old.number call }
+    requires hands { B.rests → HandsSeen pass.old call }
+    requires no_flush { is_flush call ≡ false }
+    ensures answers { SideAnswers (lent_state D.state) (lent_honest D.honest) (λ d. D.moment d.was.value) (λ d t c. D.left_since d.was.value t c) side.old call result side.new }
+    ensures out { (launches : List AnyLaunch) (launch : ℕ) → IsOutOn D.state D.honest B.rests B.shards launches side.old launch → IsOutOn D.state D.honest B.rests B.shards launches side.new launch }
+    ensures caller { IsLater pass.old pass.new }
+    ensures told { Notes told.old result told.new }
+{
+    side.ask(rt, lists, pass, told, call)
 }
 
 impl<D: Device, B: Room> ShardPlace<D, B> {
@@ -117,7 +137,7 @@ impl<D: Device, B: Room> ShardPlace<D, B> {
         }
     }
 
-    /// Makes a call that is no flush and no read, wherever its devices are. What it tells of the list is of what the caller's pass has seen then.
+    /// Makes a call that is no flush, wherever its devices are. What it hands over of the list the caller's pass has to have seen.
     pub fn ask<R: Wait>(
         &mut self,
         rt: &R,
@@ -127,19 +147,17 @@ impl<D: Device, B: Room> ShardPlace<D, B> {
         call: ShardCall,
     ) -> Reply
         requires owed { MayAskShard B.shards (number_at self.old) call }
-        requires hands { B.rests → HandsOver pass.old.seen pass.old.horizon (of_shard (number_at self.old) call) }
+        requires hands { B.rests → HandsSeen pass.old call }
         requires no_flush { is_flush call ≡ false }
-        requires no_read { is_read call ≡ false }
         ensures answers { PlaceAnswers D.state D.honest D.moment D.left_since self.old call result self.new }
         ensures belongs { IsReplyTo (of_shard (number_at self.old) call) result }
         ensures number { number_at self.new ≡ number_at self.old }
         ensures caller { IsLater pass.old pass.new }
-        ensures tells { B.rests → IsTold B.shards pass.new.seen (of_shard (number_at self.old) call) result }
         ensures told { Notes told.old result told.new }
     {
         match &mut self.berth {
-            Some(Berth::Here(side, _)) => serve_here(rt, lists, side, pass, told, call),
-            Some(Berth::Out(side, _)) => serve_out(rt, lists, side, pass, told, call),
+            Some(Berth::Here(side, _)) => side.ask(rt, lists, pass, told, call),
+            Some(Berth::Out(side, _)) => ask_out(rt, lists, side, pass, told, call),
             None => unreachable!(),
         }
     }
@@ -158,12 +176,12 @@ impl<D: Device, B: Room> ShardPlace<D, B> {
         ensures answers { PlaceAnswers D.state D.honest D.moment D.left_since self.now call.now (from_shard (read_reply call.now result)) self.now }
         ensures belongs { IsReplyTo (of_shard (number_at self.now) call.now) (from_shard (read_reply call.now result)) }
         ensures caller { IsLater pass.old pass.new }
-        ensures tells { B.rests → IsTold B.shards pass.new.seen (of_shard (number_at self.now) call.now) (from_shard (read_reply call.now result)) }
+        ensures rows { B.rests → TellsRows B.shards (number_at self.now) pass.new.seen call.now result }
         ensures told { Notes told.old (from_shard (read_reply call.now result)) told.new }
     {
         match &self.berth {
-            Some(Berth::Here(side, _)) => look(rt, lists, side, pass, told, call),
-            Some(Berth::Out(side, _)) => look(rt, lists, side, pass, told, call),
+            Some(Berth::Here(side, _)) => side.look(rt, lists, pass, told, call),
+            Some(Berth::Out(side, _)) => side.look(rt, lists, pass, told, call),
             None => unreachable!(),
         }
     }

@@ -4,7 +4,7 @@ ghost use Rattle.std.specs.Prelude.{◌≡◌};
 use crate::call_names::Named;
 use crate::logging::{log_check, log_none, log_read, log_watch};
 use crate::stores::{Store, shards};
-use crate::turning::spend;
+use crate::turning::turn;
 use answer_flow::{CheckEnd, CheckFlow, ReadEnd, ReadFlow, WatchEnd, WatchFlow};
 use calls::{Progress, Told};
 use device::Device;
@@ -20,7 +20,7 @@ pub(crate) struct Reading {
 
 impl Reading {
     fn turn<D: Device>(self, store: &mut Store<D>, told: &mut Told) -> (Named, Asking) {
-        let (named, left) = spend(self.flow, store, told);
+        let (named, left) = turn(self.flow, store, told);
         match left {
             Progress::Next(flow) => (named, Asking::Read(Reading { flow })),
             Progress::Ended(done) => (named, Asking::HasRead(done.end)),
@@ -48,7 +48,7 @@ impl Checking {
     }
 
     fn turn<D: Device>(self, store: &mut Store<D>, told: &mut Told) -> (Named, Asking) {
-        let (named, left) = spend(self.flow, store, told);
+        let (named, left) = turn(self.flow, store, told);
         match left {
             Progress::Next(flow) => (named, Asking::Check(Checking { flow })),
             Progress::Ended(done) => (named, Asking::HasChecked(done.end)),
@@ -61,7 +61,7 @@ fn turn_watch<D: Device>(
     store: &mut Store<D>,
     told: &mut Told,
 ) -> (Named, Asking) {
-    let (named, left) = spend(flow, store, told);
+    let (named, left) = turn(flow, store, told);
     match left {
         Progress::Next(flow) => (named, Asking::Watch(flow)),
         Progress::Ended(end) => (named, Asking::HasWatched(end)),
@@ -100,7 +100,7 @@ impl Asking {
     }
 
     // The turn of one that waits.
-    fn spend<D: Device>(self, store: &mut Store<D>, told: &mut Told) -> (Option<Named>, Asking) {
+    fn turn<D: Device>(self, store: &mut Store<D>, told: &mut Told) -> (Option<Named>, Asking) {
         let (named, left) = match self {
             Asking::Read(read) => read.turn(store, told),
             Asking::Check(check) => check.turn(store, told),
@@ -110,7 +110,7 @@ impl Asking {
         (Some(named), left)
     }
 
-    /// Makes this many of its calls, fewer if it ends before, and logs them where a log is handed in.
+    /// Makes this many of its calls, fewer if it ends before, and logs them if a log is handed in.
     pub(crate) fn turn_all<D: Device>(
         self,
         turns: usize,
@@ -121,7 +121,7 @@ impl Asking {
         let mut log = log;
         let mut question = self;
         for _ in 0..turns {
-            let (named, left) = question.spend(store, told);
+            let (named, left) = question.turn(store, told);
             question = left;
             match named {
                 Some(named) => {

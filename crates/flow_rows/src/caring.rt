@@ -4,7 +4,7 @@ ghost use Rattle.calls.specs.Flows.{IfNext};
 ghost use Rattle.care_flow.specs.Cares.{IsThere, begun};
 
 use crate::stores::{SHARDS, Store, shards};
-use crate::turning::spend;
+use crate::turning::turn;
 use calls::{Progress, Told};
 use care_flow::{CareEnd, CareFlow};
 use device::Device;
@@ -50,7 +50,7 @@ pub(crate) fn turn_all<D: Device>(
 {
     let mut flow = flow;
     for _turn in 0..turns {
-        let (named, left) = spend(flow, store, told);
+        let (named, left) = turn(flow, store, told);
         match left {
             Progress::Next(later) => {
                 named.write_to(log)?;

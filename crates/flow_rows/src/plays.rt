@@ -19,19 +19,13 @@ use std::alloc::{AllocError, Global};
 use tuples::{Refusal, Request, Write};
 
 /// A store, its flows, and what they did.
+#[derive(Drop)]
 pub(crate) struct Playing<D: Device> {
     store: Store<D>,
     writes: Vec<Turning>,
     questions: Vec<Asking>,
     told: Told,
     log: String,
-}
-
-fn leave_writes(mut writes: Vec<Turning>) {
-    while let Some(flow) = writes.pop() {
-        flow.leave();
-    }
-    writes.destroy_empty();
 }
 
 impl<D: Device> Playing<D> {
@@ -213,22 +207,6 @@ impl<D: Device> Playing<D> {
         Ok(self.store.refuse(n, refusal)?)
     }
 
-    // Spends the flows, and keeps what they did.
-    fn leave(self) -> String {
-        let Playing {
-            store,
-            writes,
-            questions,
-            told,
-            log,
-        } = self;
-        drop(store);
-        leave_writes(writes);
-        drop(questions);
-        drop(told);
-        log
-    }
-
     fn steps(&mut self, alloc: Global, row: &str) -> Result<(), Refusal> {
         for line in row.split('\n') {
             self.step(alloc, line)?;
@@ -250,7 +228,6 @@ pub(crate) fn play<D: Device>(
         told: Told::new(),
         log: String::new(alloc),
     };
-    let done = playing.steps(alloc, row);
-    let log = playing.leave();
-    done.map(|()| log)
+    playing.steps(alloc, row)?;
+    Ok(playing.log)
 }

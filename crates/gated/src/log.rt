@@ -39,7 +39,7 @@ impl<D: Device> GatedLog<D> {
     /// list.
     ///
     /// Each refusal returns the device: `Down` if a call of it failed, `NoMemory`, and `Damaged` if an open gate has no whole record
-    /// behind it.
+    /// after it.
     pub fn open(alloc: Global, mut device: D) -> Result<(GatedLog<D>, Vec<Vec<u8>>), (Refusal, D)>
         ensures honest { MatchResult result (λ r. D.honest device ↔ D.honest r.0.device) (λ e. D.honest device ↔ D.honest e.1) }
 

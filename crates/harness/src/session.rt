@@ -9,8 +9,6 @@ use sessions::serve_stream;
 use std::alloc::Global;
 use std::io::{self, Read, Write};
 
-const STORE: u64 = 1;
-
 /// Answers the request lines of the input, until it ends; an error if the session broke off, as `serve_stream` tells it.
 pub(crate) fn run<R: Read, W: Write>(
     alloc: Global,
@@ -18,5 +16,5 @@ pub(crate) fn run<R: Read, W: Write>(
     output: &mut W,
 ) -> io::Result<()> {
     let mut listed = Listed::new(alloc);
-    serve_stream(alloc, STORE, input, output, &mut listed)
+    serve_stream(alloc, input, output, &mut listed)
 }

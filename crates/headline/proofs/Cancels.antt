@@ -1,22 +1,22 @@
 -- A cancel of the flow in a slot keeps the promise of a step: a write goes out, or on to its end, and any other flow is gone.
-use Rattle.std.proofs.Common.{◌≡◌, ⊎_elim, ℕ, true, false, List, [], Option, Some, None, MatchOption, is_some, refl, sym, ◌∙◌, ap, subst}
+use Rattle.std.proofs.Common.{◌≡◌, ⊎_elim, ℕ, true, false, List, [], Option, Some, None, MatchOption, refl, sym, ◌∙◌, ap, subst}
 use Rattle.std.proofs.lemmas.Bool.{cases_eq}
-use Rattle.headline.proofs.Words.{Asked, Cancel, Care, CareFlow, Check, Flow, FlowView, Holds, IsIdle, IsShownFlow, IsShownSlot, Keeps, NamesHorizon, NodeName, Read, Running, RunsOne, Shows, SlotTurns, State, StepKeeps, Store, Watch, What, WorldView, Write, WriteEnd, Writing, all_told, asked_of, check_of, checking, events_of, flow_at, left, read_of, reading, running_at, shown_flow, shown_until, shows_care, watching}
+use Rattle.headline.proofs.Words.{Asked, Cancel, Care, CareFlow, Check, Flow, FlowView, Holds, IsIdle, IsShownFlow, IsShownSlot, Keeps, NamesHorizon, NodeName, Read, Running, RunsOne, Shows, SlotTurns, State, StepKeeps, Store, Watch, What, WorldView, Write, WriteView, Writing, all_told, asked_of, check_of, checking, events_of, flow_at, left, read_of, reading, running_at, seen_of, shown_flow, shown_until, shows_care, watching}
 use Rattle.care_flow.specs.declared.care.CareFlow.TheVariants as cares
+use Rattle.commit_flow.specs.Cancelling as writes
+use Rattle.commit_flow.specs.Views.{view_ended}
 use Rattle.stores.specs.Moments.{is_write}
 use Rattle.turns.specs.Runs as runs
 use Rattle.call_turns.proofs.Cancels.{cancelled_flows_end}
 use Rattle.write_turns.specs.Seen.{shown}
 use Rattle.write_turns.proofs.Cancel.{cancels_run}
-use Rattle.cluster.specs.Cancels.{Cancels, CancelsWrite}
+use Rattle.cluster.specs.Cancels.{Cancels}
 use Rattle.cluster.specs.Steps.{CancelsIn}
 use Rattle.cluster.specs.Worlds.{Puts}
 use Rattle.headline.proofs.Behind.{at_slot, off_slot, slot_turns, with_slot}
-use Rattle.headline.proofs.Leaving.{names_on, not_ended, not_waiting}
 use Rattle.headline.proofs.Lifts.{shown_there}
 use Rattle.headline.proofs.Slots.{none_shown}
 use Rattle.headline.proofs.Still.{keeps_idle, none_runs, other_flows}
-use Rattle.tuples.proofs.Options.{some_not_none}
 
 module _ {D : Type 0} (state : D → State) (honest : D → Type 0) (moment : D → ℕ) (left_since : D → ℕ → List ℕ → Type 0)
     (only_now : (d : D) (c : List ℕ) → honest d → left_since d (moment d) c → left (state d) c) where
@@ -55,35 +55,19 @@ module _ {D : Type 0} (state : D → State) (honest : D → Type 0) (moment : D 
           slots = slot_turns s (record s { flows = with_slot slot None s.flows }) slot (shown_flow asked holds) None before refl;
         }) number)
 
-    -- a write goes out, or on to its end, or it has ended
-    module _ (v w : Writing) (before : s.flows slot ≡ Some (shown v.flow.seen v.is_cancelled)) (of : v.flow.shards ≡ old.shards) (rests : v.flow.seen.awaited ≡ None) (runs_still : v.flow.seen.ended ≡ None) (c : CancelsWrite v w) where
+    -- a write goes out, or on to its end, or it ends
+    module _ (v : Writing) (before : s.flows slot ≡ Some (shown (seen_of v.flow) v.is_cancelled)) (then : WriteView) (c : writes.Cancels (seen_of v.flow) then) where
       abbrev view_then : Option FlowView
-      view_then = shown_until w.flow.seen.ended w.flow.seen true
+      view_then = shown_until then.ended then true
 
-      law : (number : ℕ) → RunsOne state honest moment left_since old.store old.shards s number (runs.cancel slot) [] (record s { flows = with_slot slot view_then s.flows })
-      law number = cancels_run state honest moment left_since only_now old.store old.shards s (record s { flows = with_slot slot view_then s.flows }) slot v.is_cancelled v.flow.seen w.flow.seen (record {
-        awaited = rests;
-        ended = runs_still;
-        cancels = c.cancels;
-        store_stays = record { devices = λ n. refl; at = λ n. refl; open_ids = refl; given = refl };
-        slots = slot_turns s (record s { flows = with_slot slot view_then s.flows }) slot (shown v.flow.seen v.is_cancelled) view_then before refl;
-      }) number
-
-      on : is_some w.flow.next_name ≡ true → Puts old.flows slot (Some (Write w)) new.flows → Keeps state honest moment left_since old s (Cancel slot) told new
-      on goes put =
-          let named = some_not_none w.flow.next_name goes in
-          let ended = not_ended w.flow.next_name w.flow.seen.awaited w.flow.seen.ended c.named named in
-          let waits = not_waiting w.flow.next_name w.flow.seen.awaited w.flow.seen.ended c.named named in
-          keeps (shown v.flow.seen v.is_cancelled) view_then before (Some (Write w)) put
-          (subst (λ (e : Option WriteEnd). IsShownSlot old.shards (Some (Write w)) (shown_until e w.flow.seen true)) (sym ended) (ap (shown w.flow.seen) (sym c.marked), c.shards ∙ of, waits, ended))
-          law
-
-      out : w.flow.next_name ≡ None → Puts old.flows slot None new.flows → Keeps state honest moment left_since old s (Cancel slot) told new
-      out none put = keeps (shown v.flow.seen v.is_cancelled) view_then before None put (by_end w.flow.seen.ended refl) law
-        where
-          by_end : (e : Option WriteEnd) → w.flow.seen.ended ≡ e → IsShownSlot old.shards None (shown_until e w.flow.seen true)
-          by_end None is = absurd (names_on w.flow.next_name w.flow.seen.awaited w.flow.seen.ended c.named (c.rests rests) is none)
-          by_end (Some end) is = tt
+      write_cancelled : (later : Option Flow) → Puts old.flows slot later new.flows → IsShownSlot old.shards later view_then → Keeps state honest moment left_since old s (Cancel slot) told new
+      write_cancelled later put is_shown = keeps (shown (seen_of v.flow) v.is_cancelled) view_then before later put is_shown
+          (λ number. cancels_run state honest moment left_since only_now old.store old.shards s (record s { flows = with_slot slot view_then s.flows }) slot v.is_cancelled (seen_of v.flow) then (record {
+            ended = refl;
+            cancels = c;
+            store_stays = record { devices = λ n. refl; at = λ n. refl; open_ids = refl; given = refl };
+            slots = slot_turns s (record s { flows = with_slot slot view_then s.flows }) slot (shown (seen_of v.flow) v.is_cancelled) view_then before refl;
+          }) number)
 
     -- whichever it is
     care_gone : (v : CareFlow) → s.flows slot ≡ Some (shows_care v) → Puts old.flows slot None new.flows → Keeps state honest moment left_since old s (Cancel slot) told new
@@ -98,8 +82,8 @@ module _ {D : Type 0} (state : D → State) (honest : D → Type 0) (moment : D 
 
     by_kind : (flow : Flow) (later : Option Flow) (view : FlowView) → s.flows slot ≡ Some view → IsShownFlow old.shards flow view → Cancels flow later → Puts old.flows slot later new.flows
         → Keeps state honest moment left_since old s (Cancel slot) told new
-    by_kind (Write v) (Some (Write w)) view before is c put = on v w (before ∙ ap (λ (x : FlowView). Some x) is.0) is.1 is.2 is.3 c.0 c.1 put
-    by_kind (Write v) None view before is c put = out v c.0 (before ∙ ap (λ (x : FlowView). Some x) is.0) is.1 is.2 is.3 c.1 c.2 put
+    by_kind (Write v) (Some (Write w)) view before is c put = write_cancelled v (before ∙ ap (λ (x : FlowView). Some x) is.0) (seen_of w.flow) c.cancels (Some (Write w)) put (ap (shown (seen_of w.flow)) (sym c.marked), c.shards ∙ is.1)
+    by_kind (Write v) None view before is c put = write_cancelled v (before ∙ ap (λ (x : FlowView). Some x) is.0) (view_ended c.0) c.1 None put tt
     by_kind (Write v) (Some later) view before is c put = absurd c
     by_kind (Read v) later view before is c put = gone (read_of v) (reading v.holds) refl (before ∙ ap (λ (x : FlowView). Some x) is.0) (put_none later put c)
     by_kind (Check v) later view before is c put = gone (check_of is.0 v) (checking v.holds) refl (before ∙ ap (λ (x : FlowView). Some x) is.1) (put_none later put c)

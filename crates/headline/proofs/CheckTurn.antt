@@ -1,5 +1,5 @@
 -- A turn of a check in a slot of a world keeps the promise of a step.
-use Rattle.std.proofs.Common.{◌≡◌, ◌≢◌, ◌≤◌, ℕ, List, [], ◌∷◌, Option, Some, None, refl, sym, ◌∙◌, ap, subst}
+use Rattle.std.proofs.Common.{◌≡◌, ◌≤◌, ℕ, List, [], ◌∷◌, Option, Some, None, sym, ◌∙◌, ap, subst}
 use Rattle.device.specs.Device.{State, left}
 use Rattle.tuples.specs.declared.object.Userset.{Userset}
 use Rattle.calls.specs.Asking.{MayBeMade}
@@ -15,7 +15,7 @@ use Rattle.answer_turns.specs.CheckTurns.{check_in_slot, check_of, check_tells}
 use Rattle.answer_turns.proofs.ChecksTurn.{checks_turn}
 use Rattle.cluster.specs.Ends.{TellsCheck}
 use Rattle.answer_flow.specs.Running.{GivesCheck}
-use Rattle.cluster.specs.Steps.{IsMade, LeavesSlot}
+use Rattle.cluster.specs.Steps.{GoesOn, IsMade, LeavesSlot}
 use Rattle.cluster.specs.Turns.{TurnsCheck}
 use Rattle.cluster.specs.Worlds.{WorldView, flow_at}
 use Rattle.cluster.specs.declared.event.What.{What}
@@ -26,7 +26,7 @@ use Rattle.headline.specs.Promised.{Keeps}
 use Rattle.headline.specs.Shown.{IsShownSlot, Shows}
 use Rattle.headline.specs.Told.{all_told}
 use Rattle.headline.proofs.CareTurn.{made_there}
-use Rattle.headline.proofs.Leaving.{goes_on, others_after}
+use Rattle.headline.proofs.Leaving.{others_after}
 use Rattle.headline.proofs.Lifts.{keeps_turn, never_away, shown_there}
 
 -- what is told of its end
@@ -43,14 +43,11 @@ module _ (shards : ℕ) (x : Userset) (v : CheckFlowValue) (of : v.shards ≡ sh
       → LeavesSlot old slot after told new → IsLeft (seen_after turned)
   is_left (made.Next w) (made.Next flow) same is_made left =
       let same_check : check_of x w ≡ check_of x v = ap (check_of x) same in
-      let on = (goes_on old slot (Check w) told new (subst (λ (f : Flow). LeavesSlot old slot (made.Next f) told new) is_made left) (names w)).1 in (
+      let on = subst (λ (f : Flow). GoesOn old slot f told new) is_made left in (
         subst (λ (f : Option Flow). IsShownSlot shards f (Some (shown_answer (check_of x v) (checking w.holds)))) (sym on.puts.at)
             (x, ap (λ (a : Asked). shown_answer a (checking w.holds)) (sym same_check), ap (λ (f : CheckFlowValue). f.shards) same ∙ of, subst (IsAsked shards) (sym same_check) asked),
         ap all_told on.tells,
       )
-    where
-      names : (w : CheckFlowValue) → Some w.next_name ≢ None
-      names w none = cc none
   is_left (made.Ended done) (made.Ended told_end) same is_made left = (
     subst (λ (f : Option Flow). IsShownSlot shards f None) (sym left.0.at) tt,
     ap all_told left.1 ∙ end_told (ending_of done.end) told_end is_made,

@@ -1,4 +1,4 @@
--- What is found of devices rests where these rest: what follows a list that a closed gate ends counts for nothing.
+-- What is found of devices rests if these rest: what follows a list that a closed gate ends counts for nothing.
 use Rattle.std.proofs.Common.{◌≡◌, ◌+◌, ◌*◌, ⊎_elim, inl, ℕ, List, [], ◌∷◌, ◌++◌, length, Option, refl, sym, ◌∙◌, ap, append_assoc, arith}
 use Rattle.device.specs.Device.{State}
 use Rattle.gated.specs.Gated.{IsSpelled, gated, spelled}

@@ -1,4 +1,4 @@
--- An opening that ends for lack of memory has touched no device: they rest where they rested.
+-- An opening that ends for lack of memory has touched no device: they rest if they rested.
 use Rattle.std.proofs.Common.{inl, ℕ, List, [], refl}
 use Rattle.std.proofs.lemmas.List.Elements.{All-nil}
 use Rattle.headline.proofs.Words.{FoundHorizon, IsOfOpening, IsThere, Machine, NodeName, Record, RestsOver, State, at_shards, coordinator, left, shard, stops, stops_since}

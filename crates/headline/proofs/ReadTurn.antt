@@ -1,5 +1,5 @@
 -- A turn of a read in a slot of a world keeps the promise of a step.
-use Rattle.std.proofs.Common.{◌≡◌, ◌≢◌, ◌≤◌, ℕ, List, [], ◌∷◌, Option, Some, None, refl, sym, ◌∙◌, ap, subst}
+use Rattle.std.proofs.Common.{◌≡◌, ◌≤◌, ℕ, List, [], ◌∷◌, Option, Some, None, sym, ◌∙◌, ap, subst}
 use Rattle.device.specs.Device.{State, left}
 use Rattle.tuples.specs.declared.tuple.Tuple.{Tuple}
 use Rattle.calls.specs.Asking.{MayBeMade}
@@ -17,7 +17,7 @@ use Rattle.answer_turns.specs.ReadTurns.{read_in_slot, read_of, read_tells}
 use Rattle.answer_turns.proofs.ReadsTurn.{reads_turn}
 use Rattle.cluster.specs.Ends.{TellsRead}
 use Rattle.answer_flow.specs.Running.{GivesRead}
-use Rattle.cluster.specs.Steps.{IsMade, LeavesSlot}
+use Rattle.cluster.specs.Steps.{GoesOn, IsMade, LeavesSlot}
 use Rattle.cluster.specs.Turns.{TurnsRead}
 use Rattle.cluster.specs.Worlds.{WorldView, flow_at}
 use Rattle.cluster.specs.declared.event.Answer.TheVariants.{Selected}
@@ -30,7 +30,7 @@ use Rattle.headline.specs.Promised.{Keeps}
 use Rattle.headline.specs.Shown.{IsShownSlot, Shows}
 use Rattle.headline.specs.Told.{all_told}
 use Rattle.headline.proofs.CareTurn.{made_there}
-use Rattle.headline.proofs.Leaving.{goes_on, others_after}
+use Rattle.headline.proofs.Leaving.{others_after}
 use Rattle.headline.proofs.Lifts.{keeps_turn, never_away, shown_there}
 
 -- what is told of its end
@@ -49,14 +49,11 @@ module _ (shards : ℕ) (v : ReadFlowValue) (of : v.shards ≡ shards) (asked : 
       → LeavesSlot old slot after told new → IsLeft (seen_after turned)
   is_left (made.Next w) (made.Next flow) same is_made left =
       let same_read : read_of w ≡ read_of v = ap read_of same in
-      let on = (goes_on old slot (Read w) told new (subst (λ (f : Flow). LeavesSlot old slot (made.Next f) told new) is_made left) (names w)).1 in (
+      let on = subst (λ (f : Flow). GoesOn old slot f told new) is_made left in (
         subst (λ (f : Option Flow). IsShownSlot shards f (Some (shown_answer (read_of v) (reading w.holds)))) (sym on.puts.at)
             (ap (λ (a : Asked). shown_answer a (reading w.holds)) (sym same_read), ap (λ (f : ReadFlowValue). f.shards) same ∙ of, subst (IsAsked shards) (sym same_read) asked),
         ap all_told on.tells,
       )
-    where
-      names : (w : ReadFlowValue) → Some w.next_name ≢ None
-      names w none = cc none
   is_left (made.Ended done) (made.Ended told_end) same is_made left = (
     subst (λ (f : Option Flow). IsShownSlot shards f None) (sym left.0.at) tt,
     ap all_told left.1 ∙ end_told (ending_of done.end) told_end is_made,

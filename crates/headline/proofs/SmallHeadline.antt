@@ -13,6 +13,8 @@ use Rattle.calls.specs.declared.progress.Progress.TheVariants as made
 use Rattle.calls.specs.declared.reply.CoordinatorReply.TheVariants as told
 use Rattle.care_flow.specs.Flushing.{flush}
 use Rattle.care_flow.specs.Views.{out}
+use Rattle.care_flow.specs.declared.care.CareCall.{CareCall}
+use Rattle.care_flow.specs.declared.care.CareCall.TheVariants as outs
 use Rattle.care_flow.specs.declared.end.CareEnd.TheVariants as ends
 use Rattle.cluster.specs.Runs.{Took}
 use Rattle.cluster.specs.declared.event.What.TheVariants.{Refused}
@@ -27,8 +29,8 @@ use Rattle.headline.proofs.Joined.{lives}
 abbrev fresh : CareFlow
 fresh = Flush (record { node = named.Coordinator; is_checkpoint = false; seen = ready tt flush })
 
-abbrev asking : CareFlow
-asking = Flush (record { node = named.Coordinator; is_checkpoint = false; seen = out tt flush })
+abbrev asking : CareCall
+asking = outs.Flush (record { node = named.Coordinator; is_checkpoint = false; seen = out tt flush })
 
 abbrev refused_down : CareFlow
 refused_down = Flush (record { node = named.Coordinator; is_checkpoint = false; seen = over tt (ends.Refused Down) })
@@ -82,7 +84,7 @@ module _ {D : Type 0} (state : D → State) (honest : D → Type 0) (moment : D 
       record {
         after = made.Ended (Some (Refused Down));
         turns = (
-          Care refused_down,
+          made.Ended (ends.Refused Down),
           record {
             call = Coordinator calls.Flush;
             out = asking;
@@ -91,9 +93,9 @@ module _ {D : Type 0} (state : D → State) (honest : D → Type 0) (moment : D 
             fits = tt;
             whole = tt;
             called = record { is = away new; answers = inl (refl, refl); new_is = refl };
-            given = ((refl, refl, (ends.Refused Down, refl, refl)), (ends.Refused Down, refl));
+            given = (refused_down, ((refl, refl, (ends.Refused Down, refl, refl)), (ends.Refused Down, refl)), record { unnamed = refl; over = refl; end_is = refl; each = tt });
           },
-          record { named = refl; unnamed = refl; ends = (refl, tt); heard = refl },
+          refl,
         );
         leaves = (record { at = refl; others = λ slot ne. elsewhere None slot ne ∙ sym (elsewhere (Some (Care fresh)) slot ne) }, refl);
       },

@@ -151,7 +151,7 @@ watch_in_range c limit names = ⊎_elim
 
 -- each request
 request_able : (shards : ℕ) (request : Request) → IsWholeStep (Start request) → IsAskable shards (IsInLimits request) (asked_by request) (begun_for shards request)
-request_able shards (requests.Write write) whole = record { decided = inl tt; whole = λ is. whole; wanted = λ is. tt; shown = λ is. (refl, refl, refl, refl) }
+request_able shards (requests.Write write) whole = record { decided = inl tt; whole = λ is. whole; wanted = λ is. tt; shown = λ is. (refl, refl) }
 request_able shards (requests.Read fresh sets) whole = record {
   decided = in_range (IsFresh fresh) 1 (length sets.items) max_asked (fresh_or_not fresh);
   whole = λ is. (to_laws fresh is.0, is.1, is.2);

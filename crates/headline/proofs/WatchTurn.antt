@@ -1,11 +1,11 @@
 -- A turn of a watch in a slot of a world keeps the promise of a step.
-use Rattle.std.proofs.Common.{◌≡◌, ◌≢◌, ◌≤◌, ℕ, List, [], ◌∷◌, Option, Some, None, refl, sym, ◌∙◌, ap, subst}
+use Rattle.std.proofs.Common.{◌≡◌, ◌≤◌, ℕ, List, [], ◌∷◌, Option, Some, None, sym, ◌∙◌, ap, subst}
 use Rattle.device.specs.Device.{State, left}
 use Rattle.tuples.specs.Watching.{Placed}
 use Rattle.calls.specs.declared.progress.Progress.{Progress}
 use Rattle.calls.specs.declared.progress.Progress.TheVariants as made
 use Rattle.answer_flow.specs.WatchViews as watch_views
-use Rattle.answer_flow.specs.WatchViews.{WatchCallValue, WatchEnding, WatchFlowValue, WatchView, ending_of, name_of, seen_after, seen_out}
+use Rattle.answer_flow.specs.WatchViews.{WatchCallValue, WatchEnding, WatchFlowValue, WatchView, ending_of, seen_after, seen_out}
 use Rattle.answer_flow.specs.declared.watch_phase.WatchEnd.{WatchEnd}
 use Rattle.stores.specs.Flows.{Asked, IsAsked, watching}
 use Rattle.stores.specs.Replies.{listed}
@@ -15,7 +15,7 @@ use Rattle.answer_turns.specs.AnswerTurns.{asked_of, shown_answer, watch_in_slot
 use Rattle.answer_turns.proofs.Watches.{watches_turn}
 use Rattle.cluster.specs.Ends.{TellsWatch}
 use Rattle.answer_flow.specs.Running.{GivesWatch}
-use Rattle.cluster.specs.Steps.{IsMade, LeavesSlot}
+use Rattle.cluster.specs.Steps.{GoesOn, IsMade, LeavesSlot}
 use Rattle.cluster.specs.Turns.{TurnsWatch}
 use Rattle.cluster.specs.Worlds.{WorldView, flow_at}
 use Rattle.cluster.specs.declared.event.Answer.TheVariants.{Listed}
@@ -28,7 +28,7 @@ use Rattle.headline.specs.Promised.{Keeps}
 use Rattle.headline.specs.Shown.{IsShownSlot, Shows}
 use Rattle.headline.specs.Told.{all_told}
 use Rattle.headline.proofs.CareTurn.{made_there}
-use Rattle.headline.proofs.Leaving.{goes_on, others_after}
+use Rattle.headline.proofs.Leaving.{others_after}
 use Rattle.headline.proofs.Lifts.{keeps_turn, never_away, shown_there}
 
 -- what is told of its end
@@ -47,14 +47,11 @@ module _ (shards : ℕ) (v : WatchFlowValue) (asked : IsAsked shards (asked_of v
       → LeavesSlot old slot after told new → IsLeft (seen_after turned)
   is_left (made.Next w) (made.Next flow) same is_made left =
       let same_watch : asked_of w ≡ asked_of v = ap asked_of same in
-      let on = (goes_on old slot (Watch w) told new (subst (λ (f : Flow). LeavesSlot old slot (made.Next f) told new) is_made left) (names w)).1 in (
+      let on = subst (λ (f : Flow). GoesOn old slot f told new) is_made left in (
         subst (λ (f : Option Flow). IsShownSlot shards f (Some (shown_answer (asked_of v) (watching w.holds)))) (sym on.puts.at)
             (ap (λ (a : Asked). shown_answer a (watching w.holds)) (sym same_watch), subst (IsAsked shards) (sym same_watch) asked),
         ap all_told on.tells,
       )
-    where
-      names : (w : WatchFlowValue) → Some (name_of w.next) ≢ None
-      names w none = cc none
   is_left (made.Ended end) (made.Ended told_end) same is_made left = (
     subst (λ (f : Option Flow). IsShownSlot shards f None) (sym left.0.at) tt,
     ap all_told left.1 ∙ end_told (ending_of end) told_end is_made,

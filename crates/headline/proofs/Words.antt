@@ -14,7 +14,6 @@ pub use Rattle.calls.specs.declared.call.NodeCall.{NodeCall}
 pub use Rattle.calls.specs.declared.call.NodeCall.TheVariants.{Coordinator, Coordinator as of_coordinator, Shard, Shard as of_shard}
 pub use Rattle.calls.specs.declared.reply.Reply.{Reply}
 pub use Rattle.calls.specs.declared.reply.Reply.TheVariants.{Coordinator as from_coordinator, Shard as from_shard}
-pub use Rattle.care_flow.specs.Cares.{end_of, has_next}
 pub use Rattle.care_flow.specs.Views.{over, ready}
 pub use Rattle.care_flow.specs.declared.care.CareFlow.{CareFlow}
 pub use Rattle.care_flow.specs.declared.care.CareFlow.TheVariants.{Flush}
@@ -22,11 +21,10 @@ pub use Rattle.care_flow.specs.declared.end.CareEnd.{CareEnd}
 pub use Rattle.care_turns.specs.CareTurns.{shows as shows_care}
 pub use Rattle.catch_up.specs.declared.caught.Progress.{Progress}
 pub use Rattle.catch_up.specs.declared.caught.Progress.TheVariants.{Next, Refused, There}
-pub use Rattle.cluster.specs.Ends.{IfEnded}
 pub use Rattle.cluster.specs.Nodes.{IsFound, IsRevived, Opens, Reopened}
 pub use Rattle.cluster.specs.Openings.{AreOpened, IsOpenedOver}
 pub use Rattle.cluster.specs.Runs.{TookAll}
-pub use Rattle.cluster.specs.Steps.{AddsFlow, GoesOn, HasGone, IsIdle, Leaves}
+pub use Rattle.cluster.specs.Steps.{AddsFlow, IsIdle}
 pub use Rattle.cluster.specs.Worlds.{WorldView, flow_at, flow_count, index_of, node_at}
 pub use Rattle.cluster.specs.declared.event.Event.{Event}
 pub use Rattle.cluster.specs.declared.event.What.{What}
@@ -37,6 +35,7 @@ pub use Rattle.cluster.specs.declared.flow.Writing.{Writing}
 pub use Rattle.cluster.specs.declared.step.Step.{Step}
 pub use Rattle.cluster.specs.declared.step.Step.TheVariants.{Cancel, Care as care_for, Restart, Start, Turn}
 pub use Rattle.commit_flow.specs.Answering.{GivesTo}
+pub use Rattle.commit_flow.specs.Flows.{seen_of}
 pub use Rattle.commit_flow.specs.Views.{WriteView}
 pub use Rattle.commit_flow.specs.Writing.{Asks}
 pub use Rattle.commit_flow.specs.declared.end.WriteEnd.{WriteEnd}

@@ -5,6 +5,7 @@ use Rattle.calls.specs.Views.{NodeView}
 use Rattle.names.specs.declared.node_name.NodeName as names
 use Rattle.names.specs.declared.node_name.NodeName.TheVariants as called
 use Rattle.care_flow.specs.Cares.{IsThere as IsCareThere}
+use Rattle.commit_flow.specs.Flows.{seen_of}
 use Rattle.laws.specs.Nodes.{NodeName, coordinator, shard}
 use Rattle.stores.specs.Flows.{IsAsked, checking, reading, watching}
 use Rattle.stores.specs.Stores.{FlowView, Store}
@@ -26,7 +27,7 @@ named (shard s) = called.Shard s
 -- A flow of a store of this many shards is shown so, between two of its calls: a write by what it holds, and any other by what it was asked, in range, as
 -- well. Only the store says which userset a check was asked about.
 abbrev pub IsShownFlow : ℕ → Flow → FlowView → Type 0
-IsShownFlow shards (Write w) view = (view ≡ writes.shown w.flow.seen w.is_cancelled) × (w.flow.shards ≡ shards) × (w.flow.seen.awaited ≡ None) × (w.flow.seen.ended ≡ None)
+IsShownFlow shards (Write w) view = (view ≡ writes.shown (seen_of w.flow) w.is_cancelled) × (w.flow.shards ≡ shards)
 IsShownFlow shards (Read v) view = (view ≡ shown_answer (read_of v) (reading v.holds)) × (v.shards ≡ shards) × IsAsked shards (read_of v)
 IsShownFlow shards (Check v) view = (x : Userset) × (view ≡ shown_answer (check_of x v) (checking v.holds)) × (v.shards ≡ shards) × IsAsked shards (check_of x v)
 IsShownFlow shards (Watch v) view = (view ≡ shown_answer (asked_of v) (watching v.holds)) × IsAsked shards (asked_of v)

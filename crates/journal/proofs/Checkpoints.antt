@@ -1,4 +1,4 @@
--- A checkpoint while it is written ahead, and what two banks have behind it.
+-- A checkpoint while it is written ahead, and what two banks have after it.
 use Rattle.std.proofs.Common.{◌≡◌, inl, inr, ⊎_elim, ◌↔◌, ℕ, ◌≤◌, false, List, [], ◌∷◌, ◌++◌, Some, Result, Ok, Err, refl, sym, ◌∙◌, ap, arith, append_assoc}
 use Rattle.device.specs.Device.{State, LeavesOnly}
 use Rattle.device.proofs.Moments.{leaves_map, leaves_then}

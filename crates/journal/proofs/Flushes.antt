@@ -78,7 +78,7 @@ rest_kept s t durable written stopped r = record {
   up = stopped ∙ r.up;
 }
 
--- One bank is written, behind which the records are the longer ones
+-- One bank is written, after which the records are the longer ones
 abbrev pub HasOneOf : List Record → List Record → List ℕ → Type 0
 HasOneOf rs more c = (bank_records c ≡ Some rs) ⊎ (bank_records c ≡ Some (rs ++ more))
 

@@ -16,7 +16,7 @@ both-both rs more (Some last) = ap (λ (l : List Record). Some l) (sym (append_a
 pub read_more : (whole : Option (List Record)) (done : List Record) (old : Left) → whole ≡ both (Some done) old.records → (r : Record) (new : Left) → IsRead old r new → whole ≡ both (Some (done ++ r ∷ [])) new.records
 read_more whole done old is r new read = is ∙ ap (both (Some done)) read.records ∙ both-both done (r ∷ []) new.records
 
--- where a record was read, all are those before it, the record, and some behind it
+-- if a record was read, all are those before it, the record, and some after it
 behind : (done : List Record) (r : Record) (o : Option (List Record)) (rs : List Record) → both (Some (done ++ r ∷ [])) o ≡ Some rs → (rest : List Record) × (rs ≡ done ++ r ∷ rest)
 behind done r None rs is = absurd cc
 behind done r (Some rest) rs is = (rest, let e : (done ++ r ∷ []) ++ rest ≡ rs = cc in sym e ∙ append_assoc done (r ∷ []) rest)

@@ -70,7 +70,7 @@ no_here : (b : Bool) (rs : List Record) → has_none rs ≡ false → (b && has_
 no_here true rs is = is
 no_here false rs is = refl
 
--- Batches behind what is whole do not change which bank is current, whatever the other one has
+-- Batches after what is whole do not change which bank is current, whatever the other one has
 pub same_bank_a : (rs more ss : List Record) → is_complete rs ≡ true → current_bank (rs ++ more) ss ≡ current_bank rs ss
 same_bank_a rs more ss whole =
     let longer = complete_longer rs more whole in
@@ -118,7 +118,7 @@ later_b none g h lt = ap (λ (b : Bool). if b then Some false else if nat_lt g h
 pub later_a : (none : Bool) (g h : ℕ) → h < g → later_bank true true none g h ≡ Some false
 later_a none g h lt = ap (λ (b : Bool). if b then Some false else if nat_lt g h then Some true else None) (lt-ltb h g lt)
 
--- Where bank a gets its first records, it is current, or bank b is as before
+-- If bank a gets its first records, it is current, or bank b is as before
 first_records : (more ss : List Record) (s : Bool) → is_complete ss ≡ s → All IsPlain more → 1 ≤ length more → (current_bank more ss ≡ Some false) ⊎ (current_bank more ss ≡ current_bank [] ss)
 unfolding is_complete generation_of
 first_records more [] s is plain some =

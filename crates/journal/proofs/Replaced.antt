@@ -17,7 +17,7 @@ use Rattle.journal.specs.Rest.{AreLed, BankHas, IsAtRest, IsPlain}
 use Rattle.journal.proofs.Flushes.{HasOneOf, led_durable, listed_records}
 use Rattle.journal.proofs.Picked.{found_current, generation_longer_a, generation_longer_b, leads_longer_a, leads_longer_b, leads_new_a, leads_new_b, led_by_empty_a, led_by_empty_b}
 
--- one bank is current beside the other, where the current one is b or not
+-- one bank is current beside the other, whether the current one is b or not
 abbrev pub Leads : Bool → List Record → List Record → Type 0
 Leads true current other = current_bank other current ≡ Some true
 Leads false current other = current_bank current other ≡ Some false

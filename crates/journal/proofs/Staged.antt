@@ -127,7 +127,7 @@ pub lent : (xs ys : List ℕ) (n : ℕ) → length ys ≡ length xs → n ≡ le
 lent xs ys n same is =
     ap (λ (l : List ℕ). take n (ys ++ l)) (drop_all (length ys) xs (omega (arith, same))) ∙ ap (take n) (append-nil ys) ∙ take_all n ys (omega (arith, same, is))
 
--- all that is staged flies: so many records, and the bytes behind the first seven
+-- all that is staged flies: so many records, and the bytes after the first seven
 pub flies_whole : (bytes : List ℕ) (capacity count : ℕ) (s : IsSpelled bytes capacity count) (rs : List Record) → staged_in count bytes ≡ rs → (len : ℕ) → len + 7 ≡ length bytes → Flies rs (record { count = count; len = len })
 flies_whole bytes capacity count s rs is len size =
     let all : count ≡ length rs = omega (arith, s.number, ap length (staged_is bytes capacity count s), ap length is) in

@@ -16,7 +16,7 @@ pub summary_append : (s : Summary) (rs more : List Record) → summary_from s (r
 summary_append s [] more = refl
 summary_append s (r ∷ rs) more = summary_append (summary_step s r) rs more
 
--- records in front, and then those of the batches behind them
+-- records in front, and then those of the batches after them
 pub summary_both : (s : Summary) (rs : List Record) (o : Option (List Record)) → then_summary s (both (Some rs) o) ≡ then_summary (summary_from s rs) o
 summary_both s rs None = refl
 summary_both s rs (Some more) = ap (λ (t : Summary). Some t) (summary_append s rs more)
@@ -25,7 +25,7 @@ pub no_records : (s : Summary) (o : Option (List Record)) → then_summary s o �
 no_records s None is = refl
 no_records s (Some rs) is = absurd cc
 
--- Behind a first record
+-- After a first record
 or_so : (b c : Bool) → (b || false) ≡ b
 or_so true c = refl
 or_so false c = refl

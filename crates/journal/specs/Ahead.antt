@@ -11,7 +11,7 @@ use Rattle.journal.specs.Records.{BankLacksRoom, HasOldOrNew, LacksRoom, View, b
 abbrev pub checkpoint_of : ℕ → List Record → List Record
 checkpoint_of generation rs = Checkpoint (Begins generation) ∷ rs ++ Checkpoint (Ends generation) ∷ []
 
--- whatever list a device has, a stop leaves it at every moment of a call and behind it
+-- whatever list a device has, a stop leaves it at every moment of a call and after it
 pub record KeepsLists {D : Type 0} (state : D → State) (moment : D → ℕ) (left_since : D → ℕ → List ℕ → Type 0) (old new : D) : Type 0 where
   pub moments : (bodies : List (List ℕ)) → HasList (state old) bodies → LeavesOnly moment left_since old new (λ c. gated c ≡ Some bodies)
   pub list : (bodies : List (List ℕ)) → HasList (state old) bodies → HasList (state new) bodies
@@ -39,7 +39,7 @@ abbrev pub HasPointCause : {D : Type 0} → (D → State) → (D → Type 0) →
 HasPointCause state honest old new = HasFailed (state old.a) (state new.a) ⊎ (HasFailed (state old.b) (state new.b)
     ⊎ (BankLacksRoom state honest old.a old.b old.end old.staged ⊎ (LacksRoomAhead state honest new.a ⊎ LacksRoomAhead state honest new.b)))
 
--- a list ends where it did, or, where some records were staged, behind a batch of them
+-- a list ends where it did, or, if some records were staged, after a batch of them
 abbrev pub StaysOrGains : ℕ → List Record → ℕ → Type 0
 StaysOrGains old staged new = (new ≡ old) ⊎ ((1 ≤ length staged) × (new ≡ old + batch_size staged + record_head))
 

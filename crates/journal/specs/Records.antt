@@ -32,13 +32,13 @@ abbrev pub has_none : List Record → Bool
 has_none [] = true
 has_none (r ∷ rs) = false
 
--- bank b has no records but behind a checkpoint: without one a bank is written first
+-- bank b has no records but after a checkpoint: without one a bank is written first
 abbrev pub is_behind_checkpoint : List Record → Bool
 is_behind_checkpoint [] = true
 is_behind_checkpoint (r ∷ rs) = nat_lt 0 (generation_of (r ∷ rs))
 
--- whether b is the current one of two banks: the complete one, of two the one of greater generation. None where they have one generation,
--- or where none is complete and one has a record.
+-- whether b is the current one of two banks: the complete one, of two the one of greater generation. None if they have one generation,
+-- or if none is complete and one has a record.
 abbrev pub later_bank : Bool → Bool → Bool → ℕ → ℕ → Option Bool
 later_bank true true none g h = if nat_lt h g then Some false else if nat_lt g h then Some true else None
 later_bank true false none g h = Some false
@@ -60,7 +60,7 @@ of_current None more = None
 of_current (Some rs) None = None
 of_current (Some rs) (Some ss) = of_bank (current_bank rs ss) rs ss
 
--- the records that the contents of banks a and b have: those of the current bank. None where a batch of either is no batch, or there is no list.
+-- the records that the contents of banks a and b have: those of the current bank. None if a batch of either is no batch, or there is no list.
 unfoldable pub found : List ℕ → List ℕ → Option (List Record)
 found a b = of_current (bank_records a) (bank_records b)
 
@@ -124,7 +124,7 @@ pub record LacksRoom {D : Type 0} (state : D → State) (honest : D → Type 0) 
 abbrev pub BankLacksRoom : {D : Type 0} → (D → State) → (D → Type 0) → D → D → ℕ → List Record → Type 0
 BankLacksRoom state honest a b end staged = LacksRoom state honest a end staged ⊎ LacksRoom state honest b end staged
 
--- a flush goes wrong only where a device failed, or the current bank has no room
+-- a flush goes wrong only if a device failed, or the current bank has no room
 abbrev pub HasCause : {D : Type 0} → (D → State) → (D → Type 0) → View D → View D → Type 0
 HasCause state honest old new = HasFailed (state old.a) (state new.a) ⊎ (HasFailed (state old.b) (state new.b) ⊎ BankLacksRoom state honest old.a old.b old.end old.staged)
 

@@ -12,11 +12,11 @@ use Rattle.journal.specs.Records.{max_records, or_none}
 abbrev pub max_len : ℕ
 max_len = max_body + 4
 
--- the records of so many, whose bytes stand behind seven others
+-- the records of so many, whose bytes stand after seven others
 unfoldable pub staged_in : ℕ → List ℕ → List Record
 staged_in count bytes = if count == 0 then [] else or_none (batch (2 ∷ to_be_bytes w16 count ++ drop 7 bytes))
 
--- Seven bytes of room, and the bytes of these records, no more than a batch may have. There is room for a byte behind them.
+-- Seven bytes of room, and the bytes of these records, no more than a batch may have. There is room for a byte after them.
 pub record IsSpelled (bytes : List ℕ) (capacity count : ℕ) : Type 0 where
   pub rs : List Record
   pub are_records : AreRecords rs

@@ -4,7 +4,7 @@ use Rattle.records.specs.declared.record.Record.{Record}
 use Rattle.records.specs.Reading.{batch}
 use Rattle.journal.specs.Records.{View, batches, both, or_none}
 
--- the records that are left, none where a batch among them is no batch, and a number that each record read makes smaller
+-- the records that are left, none if a batch among them is no batch, and a number that each record read makes smaller
 pub record Left : Type 0 where
   pub records : Option (List Record)
   pub steps : ℕ
@@ -28,7 +28,7 @@ pub record IsBatchRead (old : List (List ℕ)) (rs : List Record) (new : List (L
   pub records : batches old ≡ both (Some rs) (batches new)
   pub steps : steps_of old ≡ length rs + 1 + steps_of new
 
--- two devices whose records were found: none where a batch is no batch
+-- two devices whose records were found: none if a batch is no batch
 pub record OpeningView (D : Type 0) : Type 0 where
   pub a : D
   pub b : D

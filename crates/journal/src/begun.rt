@@ -75,7 +75,7 @@ fn append_begin<D: Device>(log: &mut GatedLog<D>, piece: &mut Batch) -> Result<(
     }
 }
 
-// Begins the checkpoint on bank a, where neither bank has a record. It reserves the memory for a whole batch.
+// Begins the checkpoint on bank a, if neither bank has a record. It reserves the memory for a whole batch.
 fn begin_in<D: Device>(
     alloc: Global,
     log: &mut GatedLog<D>,
@@ -129,7 +129,7 @@ fn finish_in<'a, D: Device, S: Source<'a>>(
 impl<D: Device> Begun<D> {
     /// Begins the first checkpoint of two devices that have no record, on bank a, and makes that durable. It reserves the memory for a whole batch.
     ///
-    /// Each refusal gives the devices back: `Down` where a call of a device failed, `NoMemory`, and `Damaged` where a bank has a record, or no list of
+    /// Each refusal gives the devices back: `Down` if a call of a device failed, `NoMemory`, and `Damaged` if a bank has a record, or no list of
     /// batches.
     pub fn begin(alloc: Global, a: D, b: D) -> Result<Begun<D>, Refused<D>>
         ensures honest { MatchResult result (λ r. (D.honest a ↔ D.honest r.a) × (D.honest b ↔ D.honest r.b)) (λ e. (D.honest a ↔ D.honest e.a) × (D.honest b ↔ D.honest e.b)) }
@@ -146,7 +146,7 @@ impl<D: Device> Begun<D> {
         ensures open { IfOk result (λ r. r.is_open ≡ true) }
         ensures err { IfErr result (λ e. IsOneOf e.refusal (Refusal.Down ∷ Refusal.NoMemory ∷ Refusal.Damaged ∷ [])) }
 
-        // Not where both read as devices without a record, as those without a byte do.
+        // Not if both read as devices without a record, as those without a byte do.
         ensures damaged { D.honest a → D.honest b → IfErr result (λ e. e.refusal ≡ Refusal.Damaged → gated (D.state a).seen ≡ Some [] → gated (D.state b).seen ≡ Some [] → ⊥) }
         ensures counts { MatchResult result (λ r. ((D.state a).failures ≤ (D.state r.a).failures) × ((D.state b).failures ≤ (D.state r.b).failures))
             (λ e. ((D.state a).failures ≤ (D.state e.a).failures) × ((D.state b).failures ≤ (D.state e.b).failures)) }
@@ -180,7 +180,7 @@ impl<D: Device> Begun<D> {
         }
     }
 
-    /// Ends the checkpoint behind the records of the source: from then on the devices have it, and nothing else. Its end is tried once. `Down`: the devices
+    /// Ends the checkpoint after the records of the source: from then on the devices have it, and nothing else. Its end is tried once. `Down`: the devices
     /// have it or are damaged. It takes no memory.
     pub fn finish<'a, S: Source<'a>>(&mut self, source: &mut S) -> Result<(), Refusal>
         ensures honest { (D.honest self.old.a ↔ D.honest self.new.a) × (D.honest self.old.b ↔ D.honest self.new.b) }

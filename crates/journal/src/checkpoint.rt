@@ -321,9 +321,9 @@ impl<D: Device> Journal<D> {
     /// one batch, before any call of a device.
     ///
     /// On the other bank each batch, of at most 1 MiB, takes one write and no sync. Two syncs follow: of all that was written, and of the byte that
-    /// makes it count. Where the bank had a list, it is emptied first, by one write and one sync.
+    /// makes it count. If the bank had a list, it is emptied first, by one write and one sync.
     ///
-    /// `Full` behind the last generation, and `NoMemory`: nothing is changed. `Down`, as of a flush: the next opening finds the old records, with
+    /// `Full` after the last generation, and `NoMemory`: nothing is changed. `Down`, as of a flush: the next opening finds the old records, with
     /// what was staged or without, or the checkpoint.
     pub fn checkpoint<'a, S: Source<'a>>(
         &mut self,
@@ -347,10 +347,10 @@ impl<D: Device> Journal<D> {
         ensures counts { ((D.state self.old.a).failures ≤ (D.state self.new.a).failures) × ((D.state self.old.b).failures ≤ (D.state self.new.b).failures) }
         ensures none { IsErrOf result Refusal.Down ⊎ (((D.state self.new.a).failures ≡ (D.state self.old.a).failures) × ((D.state self.new.b).failures ≡ (D.state self.old.b).failures)) }
 
-        // Where it is refused, the list of the current bank ends where it did, or, after `Down`, behind what was staged.
+        // If it is refused, the list of the current bank ends where it did, or, after `Down`, after what was staged.
         ensures moved { OnErr result (StaysOrGains self.old.end self.old.staged self.new.end) }
 
-        // Where a device failed before, no call is made, and behind the last generation none either.
+        // If a device failed before, no call is made, and after the last generation none either.
         ensures quiet { self.old.is_down ≡ true → (result ≡ Err Refusal.Down) × (self.new ≡ self.old) }
         ensures last { D.honest self.old.a → D.honest self.old.b → self.old.is_down ≡ false → greatest_number ≤ generation_of self.old.durable → (result ≡ Err Refusal.Full) × (self.new ≡ self.old) }
     {

@@ -126,7 +126,7 @@ impl<D: Device> Journal<D> {
         }
     }
 
-    /// Adds a record to what is staged, which takes no memory. `Full`, and nothing changed, where the batch has 65,535 records
+    /// Adds a record to what is staged, which takes no memory. `Full`, and nothing changed, if the batch has 65,535 records
     /// or would pass 1,048,576 bytes. It is no record that begins a checkpoint.
     pub fn stage(&mut self, next: &Record) -> Result<(), Refusal>
         requires spellable { IsRecord next.now }
@@ -160,9 +160,9 @@ impl<D: Device> Journal<D> {
         self.staged.has_room(next)
     }
 
-    /// Makes durable what is staged, in one batch: four device calls, or none where nothing is staged. It takes no memory.
+    /// Makes durable what is staged, in one batch: four device calls, or none if nothing is staged. It takes no memory.
     ///
-    /// `Down` where a device failed, or the list of the current bank would end past 2^40 bytes. Then the staged records may be durable or
+    /// `Down` if a device failed, or the list of the current bank would end past 2^40 bytes. Then the staged records may be durable or
     /// not, which the next opening tells. In memory they are staged no more, and the journal is down: each flush answers `Down`
     /// without a call, so that nothing which is staged from then on becomes durable, and the devices have to be opened again.
     pub fn flush(&mut self) -> Result<(), Refusal>
@@ -183,7 +183,7 @@ impl<D: Device> Journal<D> {
         ensures end { OnOk result ((self.old.staged ≡ []) ⊎ (self.new.end ≡ after_batch self.old)) }
         ensures unmoved { OnErr result (self.new.end ≡ self.old.end) }
 
-        // Where a device failed before, or nothing is staged, no call is made.
+        // If a device failed before, or nothing is staged, no call is made.
         ensures quiet { ((self.old.is_down ≡ true) ⊎ (self.old.staged ≡ [])) → self.new ≡ self.old }
     {
         if self.is_down {

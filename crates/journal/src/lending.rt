@@ -73,7 +73,7 @@ impl<D: Device> Journal<D> {
 }
 
 impl<D: Device> Journal<Away<D>> {
-    /// The devices come back, and the room for the next flight. What flew is staged no more; where its flush failed the journal is down, and
+    /// The devices come back, and the room for the next flight. What flew is staged no more; if its flush failed the journal is down, and
     /// what was staged since never becomes durable.
     pub fn land(self, flown: Journal<D>, sent: Sent) -> (Journal<D>, BatchRoom)
         requires sent { Flies self.staged sent }

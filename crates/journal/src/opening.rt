@@ -1,4 +1,4 @@
-// Opening a journal: its batches are found, and read one behind the other.
+// Opening a journal: its batches are found, and read one after the other.
 ghost use Rattle.std.specs.Prelude.{◌≡◌, ◌⊎◌, ◌↔◌, ◌≤◌, ◌<◌, [], List, Some, None, IfOk, IfErr, IsErr, IsErrOf, MatchResult, length, map, true, false, ◌∷◌};
 ghost use Rattle.refusal.specs.Refusals.{IsOneOf};
 ghost use Rattle.device.specs.Device.{HasFailed};
@@ -60,7 +60,7 @@ fn chosen(alloc: Global, in_a: Vec<Vec<u8>>, in_b: Vec<Vec<u8>>) -> Result<(Batc
 impl<D: Device> Opening<D> {
     /// Finds the records of two devices, of which none is read yet. It reserves the memory for a whole batch.
     ///
-    /// Each refusal gives the devices back: `Down` where a call of a device failed, `NoMemory`, and `Damaged` where a bank has no list
+    /// Each refusal gives the devices back: `Down` if a call of a device failed, `NoMemory`, and `Damaged` if a bank has no list
     /// of batches, or none is current. Both banks are read whole; the records are those of the current one.
     pub fn find(alloc: Global, a: D, b: D) -> Result<(Opening<D>, Unread), Refused<D>>
         ensures honest { MatchResult result (λ r. (D.honest a ↔ D.honest r.0.a) × (D.honest b ↔ D.honest r.0.b)) (λ e. (D.honest a ↔ D.honest e.a) × (D.honest b ↔ D.honest e.b)) }
@@ -154,7 +154,7 @@ impl<D: Device> Opening<D> {
 impl<D: Device> Journal<D> {
     /// Opens the journal of two devices, with the records found, oldest first. It reserves the memory for a whole batch.
     ///
-    /// Each refusal gives the devices back: `Down` where a call of a device failed, `NoMemory`, and `Damaged` where the devices
+    /// Each refusal gives the devices back: `Down` if a call of a device failed, `NoMemory`, and `Damaged` if the devices
     /// have no records.
     pub fn open(alloc: Global, a: D, b: D) -> Result<(Journal<D>, Vec<Record>), Refused<D>>
         ensures honest { MatchResult result (λ r. (D.honest a ↔ D.honest r.0.a) × (D.honest b ↔ D.honest r.0.b)) (λ e. (D.honest a ↔ D.honest e.a) × (D.honest b ↔ D.honest e.b)) }

@@ -16,7 +16,7 @@ use tuples::Refusal;
 /// What is to be known of the records of a bank.
 #[derive(Clone, Copy)]
 pub(crate) struct Summary {
-    /// That of the checkpoint with which they begin; 0 where they begin with none.
+    /// That of the checkpoint with which they begin; 0 if they begin with none.
     pub(crate) generation: u64,
     /// There is a record, and the checkpoint with which they begin has its end.
     pub(crate) is_complete: bool,
@@ -129,7 +129,7 @@ fn summarised(alloc: Global, bodies: &[Vec<u8>]) -> Result<Summary, Refusal>
     Ok(summary)
 }
 
-// Whether bank b is the current one, where one is.
+// Whether bank b is the current one, if one is.
 fn later(a: Summary, b: Summary) -> Option<bool>
     ensures { result ≡ later_bank a.is_complete b.is_complete (if a.is_empty then b.is_empty else false) a.generation b.generation }
 {
@@ -151,7 +151,7 @@ fn later(a: Summary, b: Summary) -> Option<bool>
     None
 }
 
-// Which of two banks is the current one; none where bank b has records that no checkpoint begins.
+// Which of two banks is the current one; none if bank b has records that no checkpoint begins.
 fn current(a: Summary, b: Summary) -> Option<bool>
     ensures { (rs ss : List AnyRecord) → a ≡ summary_from no_summary rs → b ≡ summary_from no_summary ss → result ≡ current_bank rs ss }
 {
@@ -161,7 +161,7 @@ fn current(a: Summary, b: Summary) -> Option<bool>
     later(a, b)
 }
 
-/// Chooses the current one of two banks; `Damaged` where neither is, or a body is no batch.
+/// Chooses the current one of two banks; `Damaged` if neither is, or a body is no batch.
 pub(crate) fn choose(
     alloc: Global,
     in_a: Vec<Vec<u8>>,

@@ -17,7 +17,7 @@ use tuples::Refusal;
 pub struct Unread {
     // what is left of the batch that is being read
     batch: IntoIter<Record>,
-    // the batches behind it
+    // the batches after it
     bodies: VecDeque<Vec<u8>>,
 }
 
@@ -34,7 +34,7 @@ impl Model for Unread {
     ghost invariant = { λ u. AreRecords (into_iter_items u.batch) };
 }
 
-// The records of the first batch, which is let go; none where no batch is left. A refusal changes nothing.
+// The records of the first batch, which is let go; none if no batch is left. A refusal changes nothing.
 fn next_batch(alloc: Global, bodies: &mut VecDeque<Vec<u8>>) -> Result<Option<Vec<Record>>, Refusal>
     ensures ok { IfOk result (λ o. MatchOption o (bodies.old.items ≡ []) (λ rs. IsBatchRead (map (λ b. b.items) bodies.old.items) rs.items (map (λ b. b.items) bodies.new.items))) }
     ensures shorter { IfOk result (λ o. MatchOption o (bodies.old.items ≡ []) (λ rs. length bodies.new.items < length bodies.old.items)) }
@@ -60,7 +60,7 @@ impl Unread {
         }
     }
 
-    /// The next record, or none where all were read; `Damaged` where its batch is no batch, `NoMemory`. A refusal changes nothing.
+    /// The next record, or none if all were read; `Damaged` if its batch is no batch, `NoMemory`. A refusal changes nothing.
     pub fn next(&mut self, alloc: Global) -> Result<Option<Record>, Refusal>
         ensures ok { IfOk result (λ o. MatchOption o (self.old.records ≡ Some []) (λ r. IsRead self.old r self.new)) }
         ensures spelled { IfOk result (λ o. IfSome o IsRecord) }

@@ -9,6 +9,7 @@ pub mod CoordinatorStates
 pub mod CoordinatorSteps
 pub mod LessLeft
 pub mod Locks
+pub mod Without
 pub mod WriteConditions
 pub mod EmptyStore
 pub mod ShardSteps

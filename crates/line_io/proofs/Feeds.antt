@@ -32,7 +32,7 @@ feed_is_there hay old k same first is none = All-get_or (λ b. b ≢ 10) hay k 0
 pub no_feed_in : (a b : List ℕ) → HasNoFeed a → HasNoFeed b → HasNoFeed (a ++ b)
 no_feed_in a b p q = All-append (λ x. x ≢ 10) a b p q
 
--- what is left where so many more are taken
+-- what is left if so many more are taken
 left_behind : (items : List ℕ) (taken filled n : ℕ) → taken + n ≤ filled → take (filled - (taken + n)) (drop (taken + n) items) ≡ drop n (take (filled - taken) (drop taken items))
 left_behind items taken filled n within =
     ap (λ (l : List ℕ). take (filled - (taken + n)) l) (sym (drop-drop n taken items))

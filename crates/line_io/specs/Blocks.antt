@@ -44,7 +44,7 @@ abbrev pub Ends : Ending → Option (List ℕ) → List ℕ → List ℕ → Lis
 Ends Feed after all line rest = all ≡ line ++ 10 ∷ rest
 Ends Input after all line rest = IsAtEnd after × (all ≡ line) × (rest ≡ [])
 
--- a line was taken of what was not taken yet and what was read behind it
+-- a line was taken of what was not taken yet and what was read after it
 pub record HasTaken (ending : Ending) (before after : Option (List ℕ)) (old new : List ℕ) (line : Line) : Type 0 where
   pub read : List ℕ
   pub bytes : List ℕ

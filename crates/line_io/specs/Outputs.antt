@@ -16,7 +16,7 @@ pub record Sends (before after : Option (List ℕ)) (old new : List ℕ) : Type 
   pub whole : old ≡ sent ++ new
   pub written : Appends before after sent
 
--- What may wait while input is read: less than a block, and nothing where no whole line of what was read waits to be answered, since
+-- What may wait while input is read: less than a block, and nothing if no whole line of what was read waits to be answered, since
 -- whoever sent the lines before may send no more until they are answered.
 pub record MayWait (unread waiting : List ℕ) : Type 0 where
   pub bounded : length waiting < 16384

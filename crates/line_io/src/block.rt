@@ -57,7 +57,7 @@ impl Block {
         Ok(())
     }
 
-    /// Reads the next bytes where all were taken. Whether there are any: none at the end of input.
+    /// Reads the next bytes if all were taken. Whether there are any: none at the end of input.
     pub fn refill<R: Reader>(&mut self, input: &mut R) -> io::Result<bool>
         ensures ok { IfOk result (λ has. Refills has (R.remaining input.old) (R.remaining input.new) (unread_of self.old) (unread_of self.new)) }
         ensures err { OnErr result (Keeps (R.remaining input.old) (R.remaining input.new)) }
@@ -70,7 +70,7 @@ impl Block {
         Ok(!self.is_empty())
     }
 
-    /// Takes the bytes up to the first line feed, and the line feed; all where there is none. Whether there was one.
+    /// Takes the bytes up to the first line feed, and the line feed; all if there is none. Whether there was one.
     pub fn take_part(&mut self, line: &mut Line) -> bool
         ensures { (front : List ℕ) → Holds line.old front → TakesPart result (unread_of self.old) (unread_of self.new) front line.new }
     {

@@ -14,7 +14,7 @@ pub enum Ending {
     Input,
 }
 
-/// Reads the next line, or what the input has behind its last line feed. It is handed what waits to be written, and that may wait.
+/// Reads the next line, or what the input has after its last line feed. It is handed what waits to be written, and that may wait.
 pub fn take_line<R: Read>(
     input: &mut R,
     block: &mut Block,

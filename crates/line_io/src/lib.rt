@@ -1,7 +1,7 @@
 //! Lines from a reader, and bytes to a writer.
 //!
 //! Keeps: each byte that was read is in one line, and each line ends at its line feed or with the input.
-//! Never: holds more than one line and one block, or reads on while bytes wait to be written behind which no whole line stands.
+//! Never: holds more than one line and one block, or reads on while bytes wait to be written after which no whole line stands.
 //! Callers rely on: what a write that failed leaves written is a beginning of its bytes, and an error is one that the reader or the writer told (`telling.rt`).
 //!
 //! Start at `specs/Lines.antt`, a line while it is read, and `specs/Blocks.antt`, what is taken of what was read.

@@ -68,7 +68,7 @@ impl Line {
         self.len == 0
     }
 
-    /// Why it is refused where no line feed ends it; `None` where it is empty.
+    /// Why it is refused if no line feed ends it; `None` if it is empty.
     pub fn unended(&self) -> Option<Refusal>
         ensures { (front : List ℕ) → Holds self.now front → result ≡ unended_refusal front }
     {

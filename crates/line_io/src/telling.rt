@@ -7,7 +7,7 @@ ghost use Rattle.std.specs.declared.io.Error.{Error};
 
 use std::io::{self, ErrorKind, Read, Write};
 
-/// A reader whose reads tell some errors. Where it may be any reader, nothing but a read of it shows that it tells one.
+/// A reader whose reads tell some errors. If it may be any reader, nothing but a read of it shows that it tells one.
 pub trait Reader: Read {
     /// A read told this error.
     ghost tells: { Error → Type 0 };
@@ -27,7 +27,7 @@ impl<R: Read> Reader for R {
     }
 }
 
-/// A writer whose writes tell some errors. Where it may be any writer, nothing but a write or a flush of it shows that it tells one.
+/// A writer whose writes tell some errors. If it may be any writer, nothing but a write or a flush of it shows that it tells one.
 pub trait Writer: Write {
     /// A write or a flush told this error.
     ghost tells: { Error → Type 0 };

@@ -1,7 +1,7 @@
 -- A check of a shared store goes on to hold what is of the list, turn by turn.
 use Rattle.std.proofs.Common.{◌≡◌, ◌⊎◌, inl, inr, ⊎_elim, ◌≤◌, ℕ, List, length, Bool, Some, Result, Ok, Err, IfOk, refl, sym, ap, subst}
 use Rattle.std.proofs.lemmas.Option.{same_Some}
-use Rattle.locked.proofs.Words.{begins_at, CallName, catch_up, CheckFlowValue, CheckHasReason, checks_at_rest_have_reason, Entry, exact, Freshness, heads, IsAsAsked, IsBeyond, IsCheckOf, IsFresh, Known, Narrows, Progress, Reply, Turns, User, Userset}
+use Rattle.locked.proofs.Words.{Attempt, begins_at, CallName, catch_up, CheckFlowValue, CheckHasReason, checks_at_rest_have_reason, Entry, exact, Freshness, heads, IsAsAsked, IsBeyond, IsCheckOf, IsFresh, Known, Narrows, Progress, Reply, Turns, User, Userset}
 use Rattle.calls.specs.declared.progress.Progress.TheVariants.{Next}
 use Rattle.answer_flow.specs.Checking.{Asks, GivesTo}
 use Rattle.answer_flow.specs.CheckViews.{CheckAwaited, CheckCallValue, CheckEnding, IsAsked, checked, ended, refused, seen_after, seen_of, seen_out}
@@ -35,8 +35,8 @@ pub check_waits : (rests : Type 0) (shards : ℕ) (pass : Known Entry) (marks : 
 check_waits rests shards pass marks x v of held =
     record { asked = subst (λ (n : ℕ). IsAsked n v.fresh v.user (Next v)) of refl; held = held; reason = λ h. checks_at_rest_have_reason v.fresh x marks pass.seen pass.horizon v.next v.holds }
 
-turned : (rests : Type 0) (shards : ℕ) (old new : Known Entry) (marks later : List Bool) (x : Userset) (v : CheckFlowValue) (after : Progress CheckFlowValue CheckDone) → v.shards ≡ shards → (rests → IsCheckOf old.seen v.fresh x v.user (seen_of v))
-    → Turns AsksCheck rests GivesCheck shards old new marks later v after → CheckGoesOn rests shards new later x v.fresh v.user after
+turned : {tried more : Known Attempt} (rests : Type 0) (shards : ℕ) (old new : Known Entry) (marks later : List Bool) (x : Userset) (v : CheckFlowValue) (after : Progress CheckFlowValue CheckDone) → v.shards ≡ shards → (rests → IsCheckOf old.seen v.fresh x v.user (seen_of v))
+    → Turns AsksCheck rests GivesCheck shards old new tried more marks later v after → CheckGoesOn rests shards new later x v.fresh v.user after
 turned rests shards old new marks later x v after of is t =
     let asks = subst (λ (n : ℕ). Asks n v.user (seen_of v) t.call (seen_out t.out)) of t.asked.2 in
     let gives = gives_to v t.out t.reply after t.asked.1 t.given in
@@ -49,9 +49,9 @@ turned rests shards old new marks later x v after of is t =
           asks t.serves.belongs (t.serves.told h) gives (t.serves.reach h) (t.serves.care h) t.notices;
     }
 
--- and so behind a turn
-pub check_goes_on : (rests : Type 0) (shards : ℕ) (old new : Known Entry) (marks later : List Bool) (x : Userset) (fresh : Freshness) (u : User) (v : CheckFlowValue) (after : Progress CheckFlowValue CheckDone) → CheckGoesOn rests shards old marks x fresh u (Next v)
-    → Turns AsksCheck rests GivesCheck shards old new marks later v after → CheckGoesOn rests shards new later x fresh u after
+-- and so after a turn
+pub check_goes_on : {tried more : Known Attempt} (rests : Type 0) (shards : ℕ) (old new : Known Entry) (marks later : List Bool) (x : Userset) (fresh : Freshness) (u : User) (v : CheckFlowValue) (after : Progress CheckFlowValue CheckDone) → CheckGoesOn rests shards old marks x fresh u (Next v)
+    → Turns AsksCheck rests GivesCheck shards old new tried more marks later v after → CheckGoesOn rests shards new later x fresh u after
 check_goes_on rests shards old new marks later x fresh u v after was t =
     subst (λ (f : CheckFlowValue). CheckGoesOn rests shards new later x f.fresh f.user after) was.asked (turned rests shards old new marks later x v after (ap (λ (f : CheckFlowValue). f.shards) was.asked)
     (λ h. subst (λ (f : CheckFlowValue). IsCheckOf old.seen f.fresh x f.user (seen_of v)) (sym was.asked) (was.held h))
@@ -88,7 +88,7 @@ check_ends rests shards seen longer asked before x u flow end runs held place an
     let of_user : IsMembershipAt longer flow.fresh x u place answer = subst (λ (u : User). IsMembershipAt longer flow.fresh x u place answer) runs.user member in
     (wanted, record { there = of_user.there; wanted = fresh_is_as_asked asked before place wanted; member = of_user.member })
 
--- and so where it is made, if there was memory for it
+-- and so if it is made, if there was memory for it
 pub made_at : {E : Type 0} (rests : Type 0) (shards count : ℕ) (seen : List Entry) (asked : Freshness) (before place : ℕ) (x : Userset) (u : User) (name : CallName) (made : Result CheckFlowValue E) → count ≡ shards
     → IfOk made (λ f. f ≡ record { shards = count; fresh = exact place; user = u; next = catch_up; holds = record (begins_at x) { place = Some place }; next_name = name })
     → place ≤ length seen → IsFresh asked before place → IfOk made (λ f. CheckRuns rests shards seen asked before x u f)
@@ -112,7 +112,7 @@ check_refuses rests shards seen longer asked before low marks x u flow end runs 
     (λ (full, far). inr (full, too_far_as_asked flow.fresh asked before longer x runs.narrows far))
     (reason e (ap (λ (e : CheckEnding). Some e) is))
 
--- what a check ends with is as good where less had been seen before it
+-- what a check ends with is as good if less had been seen before it
 pub check_ends_of_less : (seen : List Entry) (asked : Freshness) (less more : ℕ) (x : Userset) (u : User) (end : CheckEnding) → less ≤ more → CheckEnds seen asked more x u end → CheckEnds seen asked less x u end
 check_ends_of_less seen asked less more x u end le ends place answer is =
     let it = ends place answer is in

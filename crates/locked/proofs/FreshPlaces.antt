@@ -18,7 +18,7 @@ fresh_is_as_asked latest before place is = tt
 fresh_is_as_asked (at_least z) before place is = is.0
 fresh_is_as_asked (exact z) before place is = is
 
--- where less had been seen, what is as fresh as asked is still so
+-- if less had been seen, what is as fresh as asked is still so
 pub fresh_of_less : (asked : Freshness) (less more place : ℕ) → less ≤ more → IsFresh asked more place → IsFresh asked less place
 fresh_of_less latest less more place le is = omega (arith, le, is)
 fresh_of_less (at_least z) less more place le is = (is.0, omega (arith, le, is.1))

@@ -1,7 +1,7 @@
 mod Words
+mod Serving
 mod Served
 mod Passes
-mod NextCalls
 mod FreshPlaces
 mod ReadTurns
 mod CheckTurns

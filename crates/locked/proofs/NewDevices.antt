@@ -10,7 +10,7 @@ use Rattle.ties.proofs.Unmade.{unmade_nodes_are_tied}
 use Rattle.sides.specs.Reopening.{LogReopens}
 use Rattle.locked.specs.Opening.{NewDevicesRest, RefusesCoordinator, RestAt}
 
--- the first two are honest, and so are those behind them
+-- the first two are honest, and so are those after them
 pub two_honest : {D : Type 0} (honest : D → Type 0) (all : List D) (a b : D) (rest : List D) → all ≡ a ∷ b ∷ rest → All honest all → honest a × honest b
 two_honest {D} honest all a b rest is hon =
     let here : All honest (a ∷ b ∷ rest) = subst (λ (l : List D). All honest l) is hon in
@@ -37,7 +37,7 @@ module _ {D : Type 0} (state : D → State) (honest : D → Type 0) (shards : �
     pub coordinator_rests : RestAt state honest shards first low all → Anywhere state honest a b first low []
     coordinator_rests at = let here : RestAt state honest shards first low (a ∷ b ∷ rest) = subst (RestAt state honest shards first low) is at in here.coordinator a
 
-    -- and behind them those of the shards
+    -- and after them those of the shards
     pub shards_rest : RestAt state honest shards first low all → ShardsRest state honest shards first low 0 rest
     shards_rest at k any lt =
         let here : RestAt state honest shards first low (a ∷ b ∷ rest) = subst (RestAt state honest shards first low) is at in
@@ -54,7 +54,7 @@ module _ {D : Type 0} (state : D → State) (honest : D → Type 0) (shards : �
         let rows : RowsAnywhere state honest shards s a b first low = subst (λ (t : ℕ). RowsAnywhere state honest shards t a b first low) (let same : s + 0 ≡ s = omega arith in same) (here 0 a (omega (arith, lt))) in
         longer_lists_stay_tied state honest store shards s (refused Damaged a b) first seen low later rows pre le
 
-    -- and behind them those of the others
+    -- and after them those of the others
     pub others_rest : (s : ℕ) → ShardsRest state honest shards first low s all → ShardsRest state honest shards first low (s + 1) rest
     others_rest s rests k any lt =
         let here : ShardsRest state honest shards first low s (a ∷ b ∷ rest) = subst (ShardsRest state honest shards first low s) is rests in

@@ -1,6 +1,6 @@
 -- What a pass knows later.
 use Rattle.std.proofs.Common.{◌∙◌, arith, refl}
-use Rattle.locked.proofs.Words.{Attempt, Entry, IsLater, Known, KnowsMore}
+use Rattle.locked.proofs.Words.{Entry, IsLater, Known}
 use Rattle.published.proofs.Prefixes.{prefix_self, prefix_trans}
 
 pub later_on : (one two three : Known Entry) → IsLater one two → IsLater two three → IsLater one three
@@ -12,12 +12,3 @@ later_on one two three first then = record {
 
 pub later_self : (one : Known Entry) → IsLater one one
 later_self one = record { table = refl; seen = prefix_self one.seen; horizon = omega (arith) }
-
-pub more_on : (one two three : Known Attempt) → KnowsMore one two → KnowsMore two three → KnowsMore one three
-more_on one two three first then = record {
-  table = then.table ∙ first.table;
-  seen = prefix_trans one.seen two.seen three.seen first.seen then.seen;
-}
-
-pub more_self : (one : Known Attempt) → KnowsMore one one
-more_self one = record { table = refl; seen = prefix_self one.seen }

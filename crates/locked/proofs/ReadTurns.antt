@@ -1,7 +1,7 @@
 -- A read of a shared store goes on to hold what is of the list, turn by turn.
 use Rattle.std.proofs.Common.{◌≡◌, ◌⊎◌, inl, inr, ◌≤◌, ℕ, List, Bool, length, Some, refl, sym, ap, subst}
 use Rattle.std.proofs.lemmas.Option.{same_Some}
-use Rattle.locked.proofs.Words.{Entry, exact, Freshness, IsAsAsked, IsBeyond, IsFresh, IsReadOf, Known, LiesBeyond, Progress, ReadFlowValue, ReadHasReason, reads_at_rest_have_reason, Reply, Tupleset, Turns}
+use Rattle.locked.proofs.Words.{Attempt, Entry, exact, Freshness, IsBeyond, IsFresh, IsReadOf, Known, Progress, ReadFlowValue, ReadHasReason, reads_at_rest_have_reason, Reply, Tupleset, Turns}
 use Rattle.decisions.specs.Flows.{nothing_read}
 use Rattle.names.specs.declared.call_name.CallName.{CallName}
 use Rattle.calls.specs.declared.progress.Progress.TheVariants.{Next}
@@ -39,8 +39,8 @@ pub read_waits : (rests : Type 0) (shards : ℕ) (pass : Known Entry) (marks : L
 read_waits rests shards pass marks v of held =
     record { asked = subst (λ (n : ℕ). IsAsked n v.fresh v.sets (Next v)) of refl; held = held; reason = λ h. reads_at_rest_have_reason v.fresh marks pass.seen pass.horizon v.next v.holds }
 
-turned : (rests : Type 0) (shards : ℕ) (old new : Known Entry) (marks later : List Bool) (v : ReadFlowValue) (after : Progress ReadFlowValue ReadDone) → v.shards ≡ shards → (rests → IsReadOf shards old.seen v.fresh v.sets (seen_of v))
-    → Turns AsksRead rests GivesRead shards old new marks later v after → ReadGoesOn rests shards new later v.fresh v.sets after
+turned : {tried more : Known Attempt} (rests : Type 0) (shards : ℕ) (old new : Known Entry) (marks later : List Bool) (v : ReadFlowValue) (after : Progress ReadFlowValue ReadDone) → v.shards ≡ shards → (rests → IsReadOf shards old.seen v.fresh v.sets (seen_of v))
+    → Turns AsksRead rests GivesRead shards old new tried more marks later v after → ReadGoesOn rests shards new later v.fresh v.sets after
 turned rests shards old new marks later v after of is t =
     let asks = subst (λ (n : ℕ). Asks n v.sets (seen_of v) t.call (seen_out t.out)) of t.asked.2 in
     let gives = gives_to shards v t.out t.reply after of t.asked.1 t.given in
@@ -51,9 +51,9 @@ turned rests shards old new marks later v after of is t =
       reason = λ h. reads_refuse_for_a_reason shards v.fresh v.sets marks later new.seen new.horizon (seen_of v) (seen_out t.out) (seen_after after) t.call t.reply asks t.serves.belongs gives (t.serves.reach h) (t.serves.care h) t.notices;
     }
 
--- and so behind a turn, before which a shard was to be read at once or not
-pub read_goes_on : (rests : Type 0) (shards : ℕ) (old new : Known Entry) (marks later : List Bool) (fresh : Freshness) (sets : List Tupleset) (v w : ReadFlowValue) (after : Progress ReadFlowValue ReadDone) → ReadGoesOn rests shards old marks fresh sets (Next v)
-    → w ≡ record v { next = w.next; holds = w.holds; next_name = w.next_name } → HastensRead (seen_of v) (seen_of w) → Turns AsksRead rests GivesRead shards old new marks later w after → ReadGoesOn rests shards new later fresh sets after
+-- and so after a turn, before which a shard was to be read at once or not
+pub read_goes_on : {tried more : Known Attempt} (rests : Type 0) (shards : ℕ) (old new : Known Entry) (marks later : List Bool) (fresh : Freshness) (sets : List Tupleset) (v w : ReadFlowValue) (after : Progress ReadFlowValue ReadDone) → ReadGoesOn rests shards old marks fresh sets (Next v)
+    → w ≡ record v { next = w.next; holds = w.holds; next_name = w.next_name } → HastensRead (seen_of v) (seen_of w) → Turns AsksRead rests GivesRead shards old new tried more marks later w after → ReadGoesOn rests shards new later fresh sets after
 read_goes_on rests shards old new marks later fresh sets v w after was same hastens t =
     let asked : IsAsked shards fresh sets (Next w) = subst (λ (f : ReadFlowValue). w ≡ record f { next = w.next; holds = w.holds; next_name = w.next_name }) was.asked same in
     subst (λ (f : ReadFlowValue). ReadGoesOn rests shards new later f.fresh f.sets after) asked (turned rests shards old new marks later w after (ap (λ (f : ReadFlowValue). f.shards) asked)
@@ -100,7 +100,7 @@ pub read_refuses : (rests : Type 0) (shards : ℕ) (seen longer : List Entry) (a
 read_refuses rests shards seen longer asked before low now marks sets begun end runs le reason e is =
     reason_asked asked before (length seen) longer now e le marks runs.fresh runs.narrows runs.beyond (reason e (ap (λ (e : ReadEnding). Some e) is))
 
--- what a read ends with is as good where less had been seen before it
+-- what a read ends with is as good if less had been seen before it
 pub read_ends_of_less : (seen : List Entry) (asked : Freshness) (less more : ℕ) (sets : List Tupleset) (end : ReadEnding) → less ≤ more → ReadEnds seen asked more sets end → ReadEnds seen asked less sets end
 read_ends_of_less seen asked less more sets end le ends place done is =
     let it = ends place done is in

@@ -1,7 +1,7 @@
 -- A watch of a shared store goes on to hold what is of the list, turn by turn.
 use Rattle.std.proofs.Common.{◌≡◌, ◌⊎◌, inl, inr, ⊎_elim, ◌≤◌, ℕ, List, Bool, length, Some, Ok, refl, sym, ap, subst, arith}
 use Rattle.std.proofs.lemmas.Option.{same_Some}
-use Rattle.locked.proofs.Words.{Coordinator, Entry, exact, from_coordinator, IsWatchOf, Known, max_watched, NodeCall, Progress, Reply, Turns, WatchFlowValue, WatchHasReason}
+use Rattle.locked.proofs.Words.{Attempt, Coordinator, Entry, from_coordinator, IsWatchOf, Known, max_watched, NodeCall, Progress, Reply, Turns, WatchFlowValue, WatchHasReason}
 use Rattle.calls.specs.declared.call.CoordinatorCall.TheVariants.{Batch, Heads}
 use Rattle.calls.specs.declared.reply.CoordinatorReply.TheVariants as told
 use Rattle.calls.specs.declared.progress.Progress.TheVariants.{Next}
@@ -37,8 +37,8 @@ pub record WatchGoesOn (rested : Type 0) (before : ℕ) (pass : Known Entry) (ma
 pub watch_waits : (rests : Type 0) (before : ℕ) (pass : Known Entry) (marks : List Bool) (v : WatchFlowValue) → (rests → IsWatchOf v.cursor v.limit v.namespaces before pass.seen (seen_of v)) → WatchGoesOn rests before pass marks v.cursor v.limit v.namespaces (Next v)
 watch_waits rests before pass marks v held = record { asked = refl; held = held; reason = λ h. watches_at_rest_have_reason v.cursor marks pass.seen pass.horizon v.next v.holds }
 
-turned : (rests : Type 0) (shards before : ℕ) (old new : Known Entry) (marks later : List Bool) (v : WatchFlowValue) (after : Progress WatchFlowValue WatchEnd) → v.limit ≤ max_watched → before ≤ length old.seen
-    → (rests → IsWatchOf v.cursor v.limit v.namespaces before old.seen (seen_of v)) → Turns AsksWatch rests GivesWatch shards old new marks later v after → WatchGoesOn rests before new later v.cursor v.limit v.namespaces after
+turned : {tried more : Known Attempt} (rests : Type 0) (shards before : ℕ) (old new : Known Entry) (marks later : List Bool) (v : WatchFlowValue) (after : Progress WatchFlowValue WatchEnd) → v.limit ≤ max_watched → before ≤ length old.seen
+    → (rests → IsWatchOf v.cursor v.limit v.namespaces before old.seen (seen_of v)) → Turns AsksWatch rests GivesWatch shards old new tried more marks later v after → WatchGoesOn rests before new later v.cursor v.limit v.namespaces after
 turned rests shards before old new marks later v after few within is t =
     let gives = gives_to v t.out t.reply after t.asked.1 t.given in
     record {
@@ -56,9 +56,9 @@ turned rests shards before old new marks later v after few within is t =
       reason = λ h. watches_refuse_for_a_reason shards v.cursor v.limit v.namespaces marks later new.seen new.horizon (seen_of v) (seen_out t.out) (seen_after after) t.call t.reply t.asked.2 t.serves.belongs gives (t.serves.reach h) (t.serves.care h) t.notices;
     }
 
--- and so behind a turn
-pub watch_goes_on : (rests : Type 0) (shards before : ℕ) (old new : Known Entry) (marks later : List Bool) (cursor limit : ℕ) (names : List (List ℕ)) (v : WatchFlowValue) (after : Progress WatchFlowValue WatchEnd) → limit ≤ max_watched → before ≤ length old.seen
-    → WatchGoesOn rests before old marks cursor limit names (Next v) → Turns AsksWatch rests GivesWatch shards old new marks later v after → WatchGoesOn rests before new later cursor limit names after
+-- and so after a turn
+pub watch_goes_on : {tried more : Known Attempt} (rests : Type 0) (shards before : ℕ) (old new : Known Entry) (marks later : List Bool) (cursor limit : ℕ) (names : List (List ℕ)) (v : WatchFlowValue) (after : Progress WatchFlowValue WatchEnd) → limit ≤ max_watched → before ≤ length old.seen
+    → WatchGoesOn rests before old marks cursor limit names (Next v) → Turns AsksWatch rests GivesWatch shards old new tried more marks later v after → WatchGoesOn rests before new later cursor limit names after
 watch_goes_on rests shards before old new marks later cursor limit names v after few within was t =
     subst (λ (f : WatchFlowValue). WatchGoesOn rests before new later f.cursor f.limit f.namespaces after) was.asked (turned rests shards before old new marks later v after
     (subst (λ (f : WatchFlowValue). f.limit ≤ max_watched) (sym was.asked) few)
@@ -74,7 +74,7 @@ watch_ends cursor limit names before seen end held place changes is = held.lists
 pub watch_refuses : (cursor : ℕ) (seen : List Entry) (low : ℕ) (marks : List Bool) (end : WatchEnding) → WatchHasReason marks cursor seen low (ended end) → WatchRefuses marks seen low cursor end
 watch_refuses cursor seen low marks end reason e is = reason e (ap (λ (e : WatchEnding). Some e) is)
 
--- what a watch lists is as good where less had been seen before it
+-- what a watch lists is as good if less had been seen before it
 pub watch_ends_of_less : (cursor limit : ℕ) (names : List (List ℕ)) (less more : ℕ) (seen : List Entry) (end : WatchEnding) → less ≤ more → WatchEnds cursor limit names more seen end → WatchEnds cursor limit names less seen end
 watch_ends_of_less cursor limit names less more seen end le ends place changes is =
     let it = ends place changes is in

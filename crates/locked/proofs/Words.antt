@@ -13,7 +13,7 @@ pub use Rattle.calls.specs.declared.reply.Reply.TheVariants.{Coordinator as from
 pub use Rattle.calls.specs.declared.progress.Progress.{Progress}
 pub use Rattle.commit_flow.specs.Flows.{WriteFlowValue}
 pub use Rattle.decisions.specs.Flows.{exact, Freshness}
-pub use Rattle.flights.specs.Serving.{KnowsMore, Serves}
+pub use Rattle.flights.specs.Serving.{Serves}
 pub use Rattle.tuples.proofs.Lists.{prefix_length}
 pub use Rattle.flow_ties.proofs.ToldChecks.{checks_at_rest_have_reason}
 pub use Rattle.flow_ties.proofs.ToldReads.{reads_at_rest_have_reason}

@@ -1,4 +1,4 @@
--- One turn of what runs over the nodes of a shared store.
+-- One turn of a flow over the nodes of a shared store.
 use Rattle.std.specs.Prelude.{◌≡◌, ℕ, List, Bool, Result, Ok}
 use Rattle.refusal.specs.declared.refusal.Refusal.{Refusal}
 use Rattle.tuples.specs.declared.entry.Entry.{Entry}
@@ -11,7 +11,9 @@ use Rattle.shard.specs.declared.replies.ReadReply.{ReadReply}
 use Rattle.shard.specs.declared.replies.ReadReply.TheVariants.{Behind}
 use Rattle.flow_ties.specs.Cares.{HandsOver}
 use Rattle.flow_ties.specs.Refusing.{Notices}
-use Rattle.flights.specs.Serving.{Serves}
+use Rattle.flights.specs.LogPlaces.{TellsWriters}
+use Rattle.flights.specs.Serving.{KnowsMore, Serves}
+use Rattle.ties.specs.Ties.{Attempt}
 
 -- in place of rows the shard told that it has not learned so far
 abbrev pub AreBehind : Result ReadReply Refusal → Type 0
@@ -28,12 +30,14 @@ module _ {F O : Type 0} (asks : F → NodeCall → O → Type 0) where
   abbrev pub HandsWhatIsSeen : Known Entry → F → Type 0
   HandsWhatIsSeen pass v = (call : NodeCall) (out : O) → asks v call out → HandsOver pass.seen pass.horizon call
 
-  -- A turn: its call, the reply, which tells what is of the list that the caller has then seen, and what it makes of that.
-  pub record Turns {L : Type 0} (rests : Type 0) (gives : O → Reply → L → Type 0) (shards : ℕ) (old new : Known Entry) (marks later_marks : List Bool) (v : F) (after : L) : Type 0 where
+  -- A turn: its call, the reply, which tells what is of the list that the caller has then seen and of the decisions that it then knows, and what it makes of that.
+  pub record Turns {L : Type 0} (rests : Type 0) (gives : O → Reply → L → Type 0) (shards : ℕ) (old new : Known Entry) (tried more : Known Attempt) (marks later_marks : List Bool) (v : F) (after : L) : Type 0 where
     pub call : NodeCall
     pub out : O
     pub reply : Reply
     pub asked : asks v call out
     pub serves : Serves rests shards old new call reply
+    pub knows : KnowsMore tried more
+    pub tells : rests → TellsWriters old.seen more.seen new.seen call reply
     pub given : gives out reply after
     pub notices : Notices shards marks call reply later_marks

@@ -1,10 +1,10 @@
-// One turn of what runs over the nodes: its next call, at the node that the call names, and the reply.
-ghost use Rattle.std.specs.Prelude.{◌≡◌, ◌↔◌, IsTrue, true, is_some};
+// One turn of a flow: its next call, at the node that the call names, and the reply.
+ghost use Rattle.std.specs.Prelude.{◌↔◌, IsTrue};
 ghost use Rattle.calls.specs.Flows.{IfNext};
 ghost use Rattle.locked.specs.Turning.{AreBehind, HandsWhatIsSeen, TellsBehind, Turns};
 
 use crate::{Caller, Gate, Store};
-use calls::{Flow, Progress, Reply, Running, ShardReply, Told};
+use calls::{Flow, Progress, Reply, ShardReply, Told};
 use device::Device;
 use shard::ReadReply;
 use sides::Room;
@@ -36,32 +36,9 @@ fn is_behind(reply: &Reply) -> bool
 }
 
 impl<D: Device, B: Room, G: Gate> Store<D, B, G> {
-    /// Makes the next call of what runs, and gives it the reply. Whether that is of a shard that has not learned so far as it was to read. Others may call
+    /// Makes the next call of a flow, and gives it the reply. Whether that is of a shard that has not learned so far as it was to read. Others may call
     /// between two turns.
-    pub(crate) fn turn<F: Running, R: Wait>(
-        &self,
-        rt: &R,
-        caller: &mut Caller<B>,
-        told: &mut Told,
-        flow: &mut F,
-    ) -> bool
-        requires of { F.is_of B.shards flow.old }
-        requires goes_on { is_some (F.next_named flow.old) ≡ true }
-        requires hands { B.rests → HandsWhatIsSeen F.asks caller.old.pass flow.old }
-        ensures turns { Turns F.asks B.rests F.gives B.shards caller.old.pass caller.new.pass told.old told.new flow.old flow.new }
-        ensures of { F.is_of B.shards flow.new }
-    {
-        let Some(call) = flow.next_call() else {
-            return false;
-        };
-        let reply = self.make(rt, caller, told, call);
-        let is_behind = is_behind(&reply);
-        flow.give(reply);
-        is_behind
-    }
-
-    /// The turn of a flow that it spends.
-    pub(crate) fn spend<F: Flow, R: Wait>(
+    pub(crate) fn turn<F: Flow, R: Wait>(
         &self,
         rt: &R,
         caller: &mut Caller<B>,
@@ -70,7 +47,7 @@ impl<D: Device, B: Room, G: Gate> Store<D, B, G> {
     ) -> (Progress<F, F::End>, bool)
         requires of { F.is_of B.shards flow }
         requires hands { B.rests → HandsWhatIsSeen F.asks caller.old.pass flow }
-        ensures turns { Turns F.asks B.rests F.gives B.shards caller.old.pass caller.new.pass told.old told.new flow result.0 }
+        ensures turns { Turns F.asks B.rests F.gives B.shards caller.old.pass caller.new.pass caller.old.tried caller.new.tried told.old told.new flow result.0 }
         ensures of { IfNext result.0 (F.is_of B.shards) }
     {
         let (call, out) = flow.next_call();

@@ -26,7 +26,7 @@ impl<D: Device, B: Room, G: Gate> Store<D, B, G> {
         ensures caller { IsLater caller.old.pass caller.new.pass }
     {
         for _ in rt.forever() {
-            let (after, _) = self.spend(rt, caller, told, flow);
+            let (after, _) = self.turn(rt, caller, told, flow);
             match after {
                 Progress::Next(later) => flow = later,
                 Progress::Ended(end) => return end,
@@ -36,7 +36,7 @@ impl<D: Device, B: Room, G: Gate> Store<D, B, G> {
     }
 
     /// Cares for a node: what it has staged becomes durable, a shard learns or collects, writes in doubt are resolved, or the horizon is raised. How it
-    /// ended; where a node refuses, by that refusal.
+    /// ended; if a node refuses, by that refusal.
     pub fn care<R: Wait>(
         &self,
         rt: &R,

@@ -41,7 +41,7 @@ fn hasten(flow: CheckFlow, is_behind: bool) -> Progress<CheckFlow, CheckDone>
 }
 
 impl<D: Device, B: Room, G: Gate> Store<D, B, G> {
-    // The check before its first call, at a place that is known where it can be.
+    // The check before its first call, at a place that is known if it can be.
     fn begin_check(
         &self,
         alloc: Global,
@@ -83,7 +83,7 @@ impl<D: Device, B: Room, G: Gate> Store<D, B, G> {
                 Progress::Next(hastened) => hastened,
                 Progress::Ended(done) => return done,
             };
-            let (after, tells_behind) = self.spend(rt, caller, told, hastened);
+            let (after, tells_behind) = self.turn(rt, caller, told, hastened);
             is_behind = tells_behind;
             match after {
                 Progress::Next(later) => flow = later,
@@ -93,7 +93,7 @@ impl<D: Device, B: Room, G: Gate> Store<D, B, G> {
         unreachable!()
     }
 
-    // The check as `check` makes it, once: where the horizon passes its place meanwhile, it ends with `Collected`. It gives the user back.
+    // The check as `check` makes it, once: if the horizon passes its place meanwhile, it ends with `Collected`. It gives the user back.
     fn try_check<R: Wait>(
         &self,
         rt: &R,
@@ -116,9 +116,9 @@ impl<D: Device, B: Room, G: Gate> Store<D, B, G> {
     }
 
     /// Whether the user is in the userset at one place, which it tells: just the one that was asked for, or else one no older than all that the caller had
-    /// seen. It is known from the published word where that is far enough. Where memory is refused it ends with `NoMemory`; where more usersets would be
-    /// walked than may be, with `Full`; where the place that was asked for lies above the list, with `Future`; where just one was asked for and it lies below
-    /// the horizon, with `Collected`, and where any later one would do, it begins again at a later one; where a node refuses, with that refusal, which has
+    /// seen. It is known from the published word if that is far enough. If memory is refused it ends with `NoMemory`; if more usersets would be
+    /// walked than may be, with `Full`; if the place that was asked for lies above the list, with `Future`; if just one was asked for and it lies below
+    /// the horizon, with `Collected`, and if any later one would do, it begins again at a later one; if a node refuses, with that refusal, which has
     /// then been told: hand in a `Told` that is empty.
     pub fn check<R: Wait>(
         &self,

@@ -5,11 +5,13 @@ ghost use Rattle.calls.specs.Belonging.{IsOwed};
 ghost use Rattle.calls.specs.Reading.{is_read};
 ghost use Rattle.calls.specs.Refusing.{Notes};
 ghost use Rattle.calls.specs.declared.call.NodeCall.TheVariants.{Coordinator as of_coordinator, Shard as of_shard};
-ghost use Rattle.flights.specs.LogPlaces.{HasCount, TellsWriters, is_log_flush, tried_at};
-ghost use Rattle.flights.specs.Places.{is_flush, number_at};
+ghost use Rattle.flights.specs.LogPlaces.{HasCount, TellsWriters, tried_at};
+ghost use Rattle.flights.specs.Places.{number_at};
 ghost use Rattle.flights.specs.Serving.{KnowsMore, Serves};
 ghost use Rattle.flow_ties.specs.Cares.{HandsOver};
 ghost use Rattle.flow_ties.specs.Refusing.{Notices};
+ghost use Rattle.sides.specs.CoordinatorSides.{is_log_flush};
+ghost use Rattle.sides.specs.Sides.{is_flush};
 
 use crate::{Caller, Gate, Store};
 use calls::{CoordinatorCall, NodeCall, Reply, ShardCall, Told, refuse};

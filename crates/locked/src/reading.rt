@@ -41,7 +41,7 @@ fn hasten(flow: ReadFlow, is_behind: bool) -> ReadFlow
 }
 
 impl<D: Device, B: Room, G: Gate> Store<D, B, G> {
-    // The read before its first call, at a place that is known where it can be.
+    // The read before its first call, at a place that is known if it can be.
     fn begin_read(
         &self,
         alloc: Global,
@@ -77,7 +77,7 @@ impl<D: Device, B: Room, G: Gate> Store<D, B, G> {
         let mut is_behind = false;
         for _ in rt.forever() {
             let hastened = hasten(flow, is_behind);
-            let (after, tells_behind) = self.spend(rt, caller, told, hastened);
+            let (after, tells_behind) = self.turn(rt, caller, told, hastened);
             is_behind = tells_behind;
             match after {
                 Progress::Next(later) => flow = later,
@@ -87,7 +87,7 @@ impl<D: Device, B: Room, G: Gate> Store<D, B, G> {
         unreachable!()
     }
 
-    // The read as `read` makes it, once: where the horizon passes its place meanwhile, it ends with `Collected`. It gives the tuplesets back.
+    // The read as `read` makes it, once: if the horizon passes its place meanwhile, it ends with `Collected`. It gives the tuplesets back.
     fn try_read<R: Wait>(
         &self,
         rt: &R,
@@ -109,9 +109,9 @@ impl<D: Device, B: Room, G: Gate> Store<D, B, G> {
     }
 
     /// The tuples of each tupleset at one place, which it tells: just the one that was asked for, or else one no older than all that the caller had seen. It
-    /// is known from the published word where that is far enough, so that no shard waits for the coordinator. Where memory is refused it ends with
-    /// `NoMemory`; where the place that was asked for lies above the list, with `Future`; where just one was asked for and it lies below the horizon, with
-    /// `Collected`, and where any later one would do, it begins again at a later one; where a node refuses, with that refusal, which has then been told: hand in
+    /// is known from the published word if that is far enough, so that no shard waits for the coordinator. If memory is refused it ends with
+    /// `NoMemory`; if the place that was asked for lies above the list, with `Future`; if just one was asked for and it lies below the horizon, with
+    /// `Collected`, and if any later one would do, it begins again at a later one; if a node refuses, with that refusal, which has then been told: hand in
     /// a `Told` that is empty.
     pub fn read<R: Wait>(
         &self,

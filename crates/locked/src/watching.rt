@@ -31,7 +31,7 @@ impl<D: Device, B: Room, G: Gate> Store<D, B, G> {
         ensures reason { B.rests → WatchHasReason told.new flow.cursor caller.new.pass.seen caller.new.pass.horizon (ended (ending_of result)) }
     {
         for _ in rt.forever() {
-            let (after, _) = self.spend(rt, caller, told, flow);
+            let (after, _) = self.turn(rt, caller, told, flow);
             match after {
                 Progress::Next(later) => flow = later,
                 Progress::Ended(end) => return end,
@@ -40,9 +40,9 @@ impl<D: Device, B: Room, G: Gate> Store<D, B, G> {
         unreachable!()
     }
 
-    /// The changes in these namespaces behind a place, of so many places at most, and the place up to which these are all. That is as far as was asked
-    /// for, or as far as the caller had seen. Where memory is refused it ends with `NoMemory`; where the cursor lies above the list, with `Future`, and below
-    /// the horizon, with `Collected`; where a node refuses, with that refusal, which has then been told: hand in a `Told` that is empty.
+    /// The changes in these namespaces after a place, of so many places at most, and the place up to which these are all. That is as far as was asked
+    /// for, or as far as the caller had seen. If memory is refused it ends with `NoMemory`; if the cursor lies above the list, with `Future`, and below
+    /// the horizon, with `Collected`; if a node refuses, with that refusal, which has then been told: hand in a `Told` that is empty.
     pub fn watch<R: Wait>(
         &self,
         rt: &R,

@@ -1,13 +1,14 @@
 // Writes of a shared store.
-ghost use Rattle.std.specs.Prelude.{◌≡◌, ◌≢◌, ◌≤◌, ℕ, length, true, None, is_some};
-ghost use Rattle.flights.specs.Serving.{KnowsMore};
+ghost use Rattle.std.specs.Prelude.{◌≡◌, ◌≢◌, ◌≤◌, ℕ, length};
+ghost use Rattle.commit_flow.specs.Flows.{seen_of};
+ghost use Rattle.commit_flow.specs.Views.{view_ended};
 ghost use Rattle.flow_ties.specs.Writes.{RefusesAsTold};
 ghost use Rattle.sides.specs.Sides.{IsLater};
 ghost use Rattle.tuples.specs.Writes.{WriteValue};
 ghost use Rattle.locked.specs.Writing.{IsKnownWriteOf, WriteEnds, WriteRefuses};
 
 use crate::{Caller, Gate, Store};
-use calls::{Running, Told};
+use calls::{Progress, Told};
 use commit_flow::{WriteEnd, WriteFlow};
 use device::Device;
 use sides::Room;
@@ -33,33 +34,6 @@ impl<D: Device, B: Room, G: Gate> Store<D, B, G> {
         }
     }
 
-    // Makes the writer's next call, and gives it the reply. Others may call between two turns.
-    fn write_turn<R: Wait>(
-        &self,
-        rt: &R,
-        caller: &mut Caller<B>,
-        told: &mut Told,
-        flow: &mut WriteFlow,
-    )
-        requires of { flow.old.shards ≡ B.shards }
-        requires goes_on { is_some flow.old.next_name ≡ true }
-        requires runs { flow.old.seen.ended ≡ None }
-        requires held { B.rests → (asked : WriteValue) × (above : ℕ) × IsKnownWriteOf caller.old.tried.seen asked above caller.old.pass.seen flow.old.seen }
-        ensures later { IsLater caller.old.pass caller.new.pass }
-        ensures known { KnowsMore caller.old.tried caller.new.tried }
-        ensures of { flow.new.shards ≡ B.shards }
-        ensures rests { flow.new.seen.awaited ≡ None }
-        ensures held { B.rests → (asked : WriteValue) (above : ℕ) → above ≤ length caller.old.pass.seen → IsKnownWriteOf caller.old.tried.seen asked above caller.old.pass.seen flow.old.seen
-            → IsKnownWriteOf caller.new.tried.seen asked above caller.new.pass.seen flow.new.seen }
-        ensures told { RefusesAsTold B.shards told.old flow.old.seen → RefusesAsTold B.shards told.new flow.new.seen }
-    {
-        let Some(call) = Running::next_call(flow) else {
-            unreachable!()
-        };
-        let reply = self.make(rt, caller, told, call);
-        Running::give(flow, reply);
-    }
-
     // Makes its calls, one a turn, until it ends.
     fn run_write<R: Wait>(
         &self,
@@ -67,21 +41,20 @@ impl<D: Device, B: Room, G: Gate> Store<D, B, G> {
         caller: &mut Caller<B>,
         told: &mut Told,
         mut flow: WriteFlow,
-    ) -> WriteFlow
+    ) -> WriteEnd
         requires of { flow.shards ≡ B.shards }
-        requires rests { flow.seen.awaited ≡ None }
-        requires asked { (asked : WriteValue) × IsKnownWriteOf caller.old.tried.seen asked (length caller.old.pass.seen) caller.old.pass.seen flow.seen }
+        requires asked { (asked : WriteValue) × IsKnownWriteOf caller.old.tried.seen asked (length caller.old.pass.seen) caller.old.pass.seen (seen_of flow) }
         ensures later { IsLater caller.old.pass caller.new.pass }
-        ensures ended { is_some result.seen.ended ≡ true }
-        ensures held { B.rests → (asked : WriteValue) (above : ℕ) → above ≤ length caller.old.pass.seen → IsKnownWriteOf caller.old.tried.seen asked above caller.old.pass.seen flow.seen
-            → IsKnownWriteOf caller.new.tried.seen asked above caller.new.pass.seen result.seen }
-        ensures told { RefusesAsTold B.shards told.old flow.seen → RefusesAsTold B.shards told.new result.seen }
+        ensures held { B.rests → (asked : WriteValue) (above : ℕ) → above ≤ length caller.old.pass.seen → IsKnownWriteOf caller.old.tried.seen asked above caller.old.pass.seen (seen_of flow)
+            → IsKnownWriteOf caller.new.tried.seen asked above caller.new.pass.seen (view_ended result) }
+        ensures told { RefusesAsTold B.shards told.old (seen_of flow) → RefusesAsTold B.shards told.new (view_ended result) }
     {
         for _ in rt.forever() {
-            if flow.next_name().is_none() {
-                return flow;
+            let (after, _) = self.turn(rt, caller, told, flow);
+            match after {
+                Progress::Next(later) => flow = later,
+                Progress::Ended(end) => return end,
             }
-            self.write_turn(rt, caller, told, &mut flow);
         }
         unreachable!()
     }
@@ -107,13 +80,8 @@ impl<D: Device, B: Room, G: Gate> Store<D, B, G> {
             Ok(flow) => flow,
             Err(refusal) => return WriteEnd::Refused(refusal),
         };
-        let flow = self.run_write(rt, caller, told, flow);
-        match flow.finish() {
-            Some(end) => {
-                self.ring_behind(&end);
-                end
-            }
-            None => unreachable!(),
-        }
+        let end = self.run_write(rt, caller, told, flow);
+        self.ring_behind(&end);
+        end
     }
 }

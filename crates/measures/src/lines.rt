@@ -51,7 +51,13 @@ impl Idle {
 }
 
 impl Answers for Idle {
+    ghost store = { 1 };
+
     ghost gives = { λ a request reply b. Unit {0} };
+
+    fn store_id(&self) -> u64 {
+        1
+    }
 
     fn write(&mut self, _write: Write) -> Result<Written, Refusal> {
         self.count();
@@ -122,7 +128,7 @@ fn measure_in(
 ) -> Result<(), Refusal> {
     let mut rest = input;
     let start = now(rt);
-    if serve_stream(alloc, 1, &mut rest, output, idle).is_err() {
+    if serve_stream(alloc, &mut rest, output, idle).is_err() {
         return Err(Refusal::Down);
     }
     let answer = idle.asked.saturating_add(output.len() as u64);

@@ -33,7 +33,7 @@ pub enum Refusal {
     Busy,
     /// The coordinator or a participant was opened again since the write began.
     Aborted,
-    /// The coordinator failed or was opened again behind the decision: the write stands or not, whole in either case.
+    /// The coordinator failed or was opened again after the decision: the write stands or not, whole in either case.
     Unsure,
     /// A device of the node failed, or had no room for a batch more, and the node was not opened again since. What the failed call
     /// was to write stands whole or not at all.

@@ -29,7 +29,7 @@ module _ {D : Type 0} (state : D → State) (honest : D → Type 0) (moment : D 
   pub nothing_done : (w : WorldView D) → Cares state honest moment left_since w w
   nothing_done w = record { steps = []; events = []; caring = tt; took = (refl, refl) }
 
-  -- the cares, and one such step behind them
+  -- the cares, and one such step after them
   abbrev with_step : (first old new : WorldView D) (step : Step) (told : Option What) → IsCaring step → Takes state honest moment left_since old step told new → Cares state honest moment left_since first old
       → Cares state honest moment left_since first new
   with_step first old new step told caring takes cares = record {

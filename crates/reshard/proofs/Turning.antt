@@ -1,16 +1,15 @@
 -- How a care goes on in its slot, and to its end.
-use Rattle.std.proofs.Common.{◌≡◌, ◌≤◌, ◌<◌, ◌∷◌, [], ◌⊎◌, inl, inr, ℕ, Bool, true, false, List, Option, Some, None, Result, Ok, Err, MatchOption, is_some, refl, sym, ap, ◌∙◌, subst, arith}
-use Rattle.care_flow.specs.Cares.{end_of, has_next, next_name_of}
-use Rattle.care_flow.specs.Views.{GoesOrEnds}
+use Rattle.std.proofs.Common.{◌≡◌, ◌≤◌, ◌<◌, ◌∷◌, [], ◌⊎◌, inl, inr, ℕ, true, false, List, Option, Some, None, Result, Ok, Err, MatchOption, is_some, refl, sym, ap, ◌∙◌, subst, arith}
+use Rattle.calls.specs.declared.progress.Progress.{Progress}
+use Rattle.calls.specs.declared.progress.Progress.TheVariants as made
+use Rattle.care_flow.specs.Cares.{next_name_of}
 use Rattle.care_flow.specs.declared.care.CareFlow.{CareFlow}
 use Rattle.care_flow.specs.declared.end.CareEnd.{CareEnd}
 use Rattle.care_flow.specs.declared.end.CareEnd.TheVariants as care_ends
-use Rattle.cluster.proofs.Leaving.{left_later}
 use Rattle.cluster.specs.Begun.{MayCare, caring_for}
-use Rattle.cluster.specs.Ends.{IfEnded, TellsCare}
+use Rattle.cluster.specs.Ends.{TellsCare}
 use Rattle.cluster.specs.Flows as flows
-use Rattle.cluster.specs.Steps.{AddsFlow, Begins, GoesOn, HasGone, IsIdle, Leaves, Takes, TurnsIn}
-use Rattle.cluster.specs.Turns.{Turns}
+use Rattle.cluster.specs.Steps.{AddsFlow, Begins, GoesOn, IsIdle, IsMade, LeavesSlot, Takes, TurnsIn}
 use Rattle.cluster.specs.Worlds.{WorldView, flow_at, flow_count}
 use Rattle.cluster.specs.declared.event.Answer.{Answer}
 use Rattle.cluster.specs.declared.event.Answer.TheVariants as answers
@@ -134,28 +133,22 @@ module _ {D : Type 0} (state : D → State) (honest : D → Type 0) (moment : D 
     told_by (care_ends.Resolved found) tells is same = inl (answers.Resolved found, same ∙ is)
     told_by (care_ends.Refused e) tells is same = inr (inl (e, same ∙ is))
 
-    gone : (v : CareFlow) → GoesOrEnds false (end_of v) → HasGone old.flows slot (a_care v) told new.flows → Came
-    gone v (end, is) g = told_by end g.end (subst (λ (o : Option CareEnd). IfEnded TellsCare o g.end) is g.ends.0) g.tells
-
-    by_next : (v : CareFlow) (o : Option CallName) → next_name_of v ≡ o → is_some o ≡ has_next v → GoesOrEnds (has_next v) (end_of v)
-        → MatchOption o (HasGone old.flows slot (a_care v) told new.flows) (λ name. GoesOn old.flows slot (a_care v) name told new.flows) → Came
-    by_next v None is named ends g = gone v (subst (λ (b : Bool). GoesOrEnds b (end_of v)) (sym named) ends) g
-    by_next v (Some name) is named ends g = inr (inr (
-      name,
-      g.tells,
-      subst (λ (o : Option Flow). MatchOption o ⊥ (λ flow. flows.next_name_of flow ≡ Some name)) (sym g.puts.at) is,
-      subst (λ (o : Option Flow). MatchOption o ⊥ IsGoing) (sym g.puts.at) (ap (λ (o : Option CallName). is_some o) is),
-    ))
-
-    by_later : (v : CareFlow) (later : Flow) → Turns state honest moment left_since old.shards old.nodes (a_care v) new.nodes later → Leaves old.flows slot later told new.flows → Came
-    by_later v (a_care w) t l = by_next w (next_name_of w) refl l.named t.given.1 l.leaves
-    by_later v later t l = absurd t
+    by_made : (turned : Progress CareFlow CareEnd) (after : Progress Flow (Option What)) → IsMade a_care TellsCare turned after → LeavesSlot old.flows slot after told new.flows → Came
+    by_made (made.Next v) (made.Next flow) is_made left =
+        let on = subst (λ (f : Flow). GoesOn old.flows slot f told new.flows) is_made left in
+        inr (inr (
+          on.name,
+          on.tells,
+          subst (λ (o : Option Flow). MatchOption o ⊥ (λ flow. flows.next_name_of flow ≡ Some on.name)) (sym on.puts.at) on.named.0,
+          subst (λ (o : Option Flow). MatchOption o ⊥ IsGoing) (sym on.puts.at) (ap (λ (o : Option CallName). is_some o) on.named.0),
+        ))
+    by_made (made.Ended end) (made.Ended tells) is_made left = told_by end tells is_made left.1
+    by_made (made.Next v) (made.Ended tells) is_made left = absurd is_made
+    by_made (made.Ended end) (made.Next flow) is_made left = absurd is_made
 
     by_flow : (o : Option Flow) → MatchOption o ⊥ IsGoing → MatchOption o (IsIdle state honest moment left_since old told new) (λ flow. TurnsIn state honest moment left_since old slot flow told new) → Came
     by_flow None going takes = absurd going
-    by_flow (Some (a_care v)) going takes =
-        let t = takes.0.turns in
-        by_later v t.0 t.1 (left_later old.flows slot t.0 takes.0.after told new.flows t.2 takes.0.leaves)
+    by_flow (Some (a_care v)) going takes = by_made takes.0.turns.0 takes.0.after takes.0.turns.2 takes.0.leaves
     by_flow (Some flow) going takes = absurd going
 
     turn_of_care : HoldsCare old slot → Takes state honest moment left_since old (Turn slot) told new → Came

@@ -87,7 +87,7 @@ module _ {D : Type 0} (state : D → State) (honest : D → Type 0) (moment : D 
     first_is [] new n there = absurd (let bad : None ≡ Some n = there in cc)
     first_is (x ∷ xs) new n there = same_Some new n there
 
-    -- where it went well, the first node has what the old coordinator knows
+    -- if it went well, the first node has what the old coordinator knows
     pub has_log : (node : NodeView D) (nodes : List (BegunView D)) (was new : BegunView D) (r : Result (Unit {0}) Refusal) → 1 ≤ length nodes → was ≡ get_or nodes 0 was
         → node_at old.nodes Coordinator ≡ Some node → Carries state honest moment left_since shards node was r new → AreHonest honest nodes → OnOk r (HasLog state honest old shards (set nodes 0 new))
     has_log node nodes was new (Err e) some is at carries all = tt
@@ -109,7 +109,7 @@ module _ {D : Type 0} (state : D → State) (honest : D → Type 0) (moment : D 
         let e = ends head k.0 k.1 in
         record { last = e.0; others = k.0; new_is = e.1; each = λ fine. subst (HaveShards state old.store shards reach rows shards) k.1 (have fine); ends = e.2 }
 
-    -- what comes of it behind the making, the devices being handed back
+    -- what comes of it after the making, the devices being handed back
     pub left_over : (reach : Reach) (rows : List Version) (given back rest : List D) (nodes : List (BegunView D)) → back ≡ devices_of nodes ++ rest
         → ((nodes ≡ []) × FirstTwo state honest moment left_since given rest) ⊎ ((head : BegunView D) × HasBegunOn state honest moment left_since given head × HasTried state honest moment left_since old shards reach rows (All honest given) head nodes)
         → AreLeft state honest moment left_since old shards reach rows given back
@@ -117,7 +117,7 @@ module _ {D : Type 0} (state : D → State) (honest : D → Type 0) (moment : D 
         inl (subst (FirstTwo state honest moment left_since given) (sym (is ∙ ap (λ (l : List (BegunView D)). devices_of l ++ rest) none)) first)
     left_over reach rows given back rest nodes is (inr (head, begun, tried)) = inr (head, begun, nodes, rest, is, tried)
 
-    -- and so where all are written
+    -- and so if all are written
     pub written_in_order : {T E : Type 0} (reach : Reach) (rows : List Version) (given back rest : List D) (nodes : List (BegunView D)) (result : Result T E) → back ≡ devices_of nodes ++ rest → OnOk result (rest ≡ [])
         → OnOk result ((head : BegunView D) × HasBegunOn state honest moment left_since given head × EndsLast state honest moment left_since old shards reach rows (All honest given) head nodes)
         → OnOk result (AreWrittenInOrder state honest moment left_since old shards reach rows given back)
@@ -136,7 +136,7 @@ module _ {D : Type 0} (state : D → State) (honest : D → Type 0) (moment : D 
     tried_weaker reach rows is_fine more head nodes given (inl not) = inl not
     tried_weaker reach rows is_fine more head nodes given (inr e) = inr (ends_last_weaker reach rows is_fine more head nodes given e)
 
-    -- no end was tried where the beginning did not come to its end
+    -- no end was tried if the beginning did not come to its end
     pub head_tried : (reach : Reach) (rows : List Version) (given devices : List D) (nodes : List (BegunView D)) → HeadBegins state honest moment left_since given nodes devices
         → ((nodes ≡ []) × FirstTwo state honest moment left_since given devices) ⊎ ((head : BegunView D) × HasBegunOn state honest moment left_since given head × HasTried state honest moment left_since old shards reach rows (All honest given) head nodes)
     head_tried reach rows given devices nodes (inl first) = inl first

@@ -1,4 +1,4 @@
--- What was done where a store that nobody has open is carried over.
+-- What was done if a store that nobody has open is carried over.
 use Rattle.std.specs.Prelude.{◌≡◌, ◌⊎◌, ℕ, List}
 use Rattle.cluster.specs.Openings.{IsOpenedOver}
 use Rattle.cluster.specs.Worlds.{WorldView}

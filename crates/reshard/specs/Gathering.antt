@@ -22,7 +22,7 @@ module _ {D : Type 0} (state : D → State) (honest : D → Type 0) (nodes : Lis
     pub rows_are : known.now.rows ≡ told
     pub tells : IsKnownOf s known
 
-  -- and so does each of the first shards: the versions of all, one behind the other
+  -- and so does each of the first shards: the versions of all, one after the other
   abbrev pub TellAll : ℕ → List Version → Type 0
   TellAll zero told = told ≡ []
   TellAll (suc s) told = (before more : List Version) × TellAll s before × TellsShard s more × (told ≡ before ++ more)

@@ -57,7 +57,7 @@ module _ {D : Type 0} (state : D → State) (honest : D → Type 0) (moment : D 
     pub makes : NextIs mid slot made
     pub turn : Takes state honest moment left_since mid (Turn slot) (Some (Next next)) new
 
-  -- The flow in a slot made turns, and the last one told an answer, or this refusal. Or it was left: it has made more calls than can be counted, or right behind
+  -- The flow in a slot made turns, and the last one told an answer, or this refusal. Or it was left: it has made more calls than can be counted, or right after
   -- a batch its shard would be asked once more how far it has learned, as of what the coordinator has forgotten.
   abbrev pub Plays : ℕ → WorldView D → Result (Unit {0}) Refusal → WorldView D → Type 0
   Plays slot old r new = MatchResult r
@@ -88,7 +88,7 @@ module _ {D : Type 0} (state : D → State) (honest : D → Type 0) (moment : D 
   RefusesCare old e new = (first : WorldView D) → Cares state honest moment left_since first old → IsRefusedCare first e new
 
 module _ {D : Type 0} (state : D → State) (honest : D → Type 0) where
-  -- the node of this name, asked how far it reaches, answers this refusal; where there is none, that is BadRequest
+  -- the node of this name, asked how far it reaches, answers this refusal; if there is none, that is BadRequest
   abbrev pub RefusesAt : List (NodeView D) → NodeName → Refusal → Type 0
   RefusesAt nodes name e = MatchOption (node_at nodes name) (e ≡ BadRequest) (λ node. Reaches state honest node (Err e))
 
@@ -144,7 +144,7 @@ abbrev pub IsNotWritten : {D : Type 0} → (D → State) → (D → Type 0) → 
 IsNotWritten state honest given nodes e = (e ≡ Down) ⊎ ((e ≡ NoMemory) ⊎ (((e ≡ Damaged) × HaveSomething state honest given) ⊎ LacksLog nodes e))
 
 module _ {D : Type 0} (state : D → State) (honest : D → Type 0) (moment : D → ℕ) (left_since : D → ℕ → List ℕ → Type 0) where
-  -- Why nothing was carried over: a node was not up, and then nothing was done; or a care was refused; or what the nodes know could not be found out behind
+  -- Why nothing was carried over: a node was not up, and then nothing was done; or a care was refused; or what the nodes know could not be found out after
   -- the cares, or not be written.
   abbrev pub CarriesNot : List D → WorldView D → Refusal → WorldView D → Type 0
   CarriesNot given old e new = (IsFirstDown state honest old e × (new ≡ old))

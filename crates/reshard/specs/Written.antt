@@ -92,7 +92,7 @@ module _ {D : Type 0} (state : D → State) (honest : D → Type 0) (moment : D 
       abbrev pub HasTried : Type 0 → BegunView D → List (BegunView D) → Type 0
       HasTried is_fine head new = ((more : List (BegunView D)) × (new ≡ head ∷ more)) ⊎ EndsLast is_fine head new
 
-      -- What comes back where they are not all written: no more than the coordinator's checkpoint has begun, or all but its end is there, which was tried.
+      -- What comes back if they are not all written: no more than the coordinator's checkpoint has begun, or all but its end is there, which was tried.
       abbrev pub AreLeft : List D → List D → Type 0
       AreLeft given back = FirstTwo given back ⊎ ((head : BegunView D) × HasBegunOn given head × (nodes : List (BegunView D)) × (rest : List D) × (back ≡ devices_of nodes ++ rest) × HasTried (All honest given) head nodes)
 
@@ -104,6 +104,6 @@ module _ {D : Type 0} (state : D → State) (honest : D → Type 0) (moment : D 
         pub made_is : made ≡ devices_of nodes
         pub ended : EndsLast (All honest given) head nodes
 
-    -- What comes back where a store is not carried over: all as it was, or written so far with what the old store knows, whose nodes all reach equally far.
+    -- What comes back if a store is not carried over: all as it was, or written so far with what the old store knows, whose nodes all reach equally far.
     abbrev pub IsLeftOver : List D → List D → Type 0
     IsLeftOver given back = (back ≡ given) ⊎ ((reach : Reach) × (rows : List Version) × HaveReached state honest old.nodes old.shards reach × AreGathered state honest old.nodes old.shards rows × AreLeft reach rows given back)

@@ -39,7 +39,7 @@ fn heads(alloc: Global, me: Identity, reach: Reach) -> [Record; 3]
     [epoch, Record::Horizon(reach.horizon), learned]
 }
 
-// Ends the checkpoint of a shard behind these records and its own of the versions.
+// Ends the checkpoint of a shard after these records and its own of the versions.
 fn fill_rows<'h, 'r: 'h, D: Device>(
     alloc: Global,
     begun: &mut Begun<D>,

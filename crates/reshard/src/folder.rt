@@ -25,10 +25,10 @@ pub struct Folders<'a> {
 }
 
 /// Carries the store that one folder keeps over to the other one, with so many shards, and prints `done`. On standard error it says why it did not:
-/// `zanstore: 13 Down` where a file of the store can't be opened, or another process has it, `zanstore: 16 Damaged` where the other folder has a file of a
+/// `zanstore: 13 Down` if a file of the store can't be opened, or another process has it, `zanstore: 16 Damaged` if the other folder has a file of a
 /// store, and else the refusal; and on a second line what that is about, if it is known. The status is 0 or 1.
 ///
-/// Nothing is written to the files of the old folder. Where the status is not 0 the files of the new one are to be deleted.
+/// Nothing is written to the files of the old folder. If the status is not 0 the files of the new one are to be deleted.
 pub fn reshard_folder(
     rt: &HostRuntime,
     folders: Folders<'_>,

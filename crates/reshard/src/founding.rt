@@ -34,7 +34,7 @@ fn put_two<D: Device>(devices: &mut Vec<D>, a: D, b: D)
     let _ = devices.insert(0, a);
 }
 
-// The checkpoint of the next node begins on its devices; where it does not they are put back.
+// The checkpoint of the next node begins on its devices; if it does not they are put back.
 fn begin_next<D: Device>(
     alloc: Global,
     devices: &mut Vec<D>,

@@ -3,9 +3,9 @@
 //! Keeps: of the old store only cares of its nodes are done, which leave its log as it is; the new one has the same id and log, how often the
 //! coordinator was opened, and its horizon, and each version that an old shard has is at the new shard of its tuple.
 //! Never: carries over a write in doubt, or writes anything of the log before the devices of each new node say that a checkpoint has begun on them.
-//! Callers rely on: behind `Ok` each new node's devices have exactly the checkpoint of what it is to know, whatever a stop leaves.
-//! Callers are told: that all of the old store's list is kept behind its flush; that the end of the coordinator's checkpoint is tried once those of all shards
-//! are whole; and as which node it is refused where one is not up. `reshard_laws` says what that comes to.
+//! Callers rely on: after `Ok` each new node's devices have exactly the checkpoint of what it is to know, whatever a stop leaves.
+//! Callers are told: that all of the old store's list is kept after its flush; that the end of the coordinator's checkpoint is tried once those of all shards
+//! are whole; and as which node it is refused if one is not up. `reshard_laws` says what that comes to.
 //! Only tested: what two folders then hold.
 //!
 //! Start at `specs/Made.antt`, what the new devices have, and `resharding.rt`.

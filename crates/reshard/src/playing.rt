@@ -11,7 +11,7 @@ use device::Device;
 use names::{CallName, Care};
 use tuples::Refusal;
 
-// What a flow has come to that told this; None where it goes on.
+// What a flow has come to that told this; None if it goes on.
 fn outcome_of(told: Option<What>) -> Option<Result<(), Refusal>>
     ensures { ComesTo told result }
 {
@@ -24,7 +24,7 @@ fn outcome_of(told: Option<What>) -> Option<Result<(), Refusal>>
     outcome
 }
 
-// The flow in the slot makes its turn. What it has come to; None where it goes on.
+// The flow in the slot makes its turn. What it has come to; None if it goes on.
 fn turn<D: Device>(world: &mut World<D>, slot: usize) -> Option<Result<(), Refusal>>
     ensures { (told : Option AnyWhat) × Takes D.state D.honest D.moment D.left_since world.old (Step.Turn slot) told world.new × ComesTo told result }
 {
@@ -38,7 +38,7 @@ fn turn<D: Device>(world: &mut World<D>, slot: usize) -> Option<Result<(), Refus
     }
 }
 
-// Whether a shard is asked once more how far it has learned, right behind a batch: what it is to learn the coordinator has forgotten. Nobody else lets a
+// Whether a shard is asked once more how far it has learned, right after a batch: what it is to learn the coordinator has forgotten. Nobody else lets a
 // shard learn here, so it would be asked for ever.
 fn is_left_behind(made: Option<CallName>, next: CallName) -> bool
     ensures { IsTrue result ↔ ((made ≡ Some CallName.Batch) × (next ≡ CallName.Learned)) }

@@ -156,8 +156,8 @@ fn carry<D: Device>(
 /// what is kept, and forgets what lies below the horizon. Its log stays as it is, and it can be gone on with wherever this ends. A write that is in doubt
 /// still is not carried over: it has no place in the log, and the new coordinator, which is opened once more than the old one, tells that it is aborted.
 ///
-/// Where a node is not up it is refused as that one, the coordinator before the shards; as a care was, or with `Down` where a call of a device failed,
-/// `NoMemory` or `Full`. `Damaged` where the old devices are not all of one moment, a shard is to learn what the log no longer has, or a new device has
+/// If a node is not up it is refused as that one, the coordinator before the shards; as a care was, or with `Down` if a call of a device failed,
+/// `NoMemory` or `Full`. `Damaged` if the old devices are not all of one moment, a shard is to learn what the log no longer has, or a new device has
 /// something. Then the new devices come back to be emptied: unless the very last call failed, they are no store.
 pub fn carry_over<D: Device>(
     alloc: Global,

@@ -64,7 +64,7 @@ pub(crate) fn settle<D: Device>(world: &mut World<D>) -> Result<(), Refusal>
     care_for_all(world, shards)
 }
 
-/// How far all nodes reach. `Damaged` where one reaches further than another: the devices are not all of one moment.
+/// How far all nodes reach. `Damaged` if one reaches further than another: the devices are not all of one moment.
 pub(crate) fn reach<D: Device>(world: &World<D>) -> Result<Reach, Refusal>
     ensures ok { IfOk result (HaveReached D.state D.honest world.now.nodes world.now.shards) }
     ensures err { IfErr result (λ e. ((name : AnyName) × RefusesAt D.state D.honest world.now.nodes name e) ⊎ ((e ≡ Refusal.Damaged) × AreApart D.state D.honest world.now.nodes world.now.shards)) }

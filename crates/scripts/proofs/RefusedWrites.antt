@@ -3,15 +3,14 @@ use Rattle.std.proofs.Common.{◌≡◌, ◌≤◌, ◌<◌, ◌⊎◌, ⊎_elim
 use Rattle.std.proofs.lemmas.Bool.{cases_lt}
 use Rattle.std.proofs.lemmas.Option.{same_Some}
 use Rattle.tuples.specs.Limits.{max_flows}
-use Rattle.names.specs.declared.call_name.CallName.{CallName}
+use Rattle.calls.specs.declared.progress.Progress.{Progress}
+use Rattle.calls.specs.declared.progress.Progress.TheVariants as made
+use Rattle.commit_flow.specs.Flows.{WriteFlowValue}
 use Rattle.commit_flow.specs.declared.end.WriteEnd.{WriteEnd}
 use Rattle.commit_flow.specs.declared.end.WriteEnd.TheVariants as write_end
 use Rattle.cluster.specs.Begun.{begun_for}
-use Rattle.cluster.specs.Ends.{EndsWith, IfEnded, TellsWrite}
-use Rattle.cluster.specs.Flows.{is_cancelled, next_name_of}
-use Rattle.cluster.specs.Steps.{GoesOn, HasGone, IsIdle, Leaves, Takes, TurnsIn, unless}
-use Rattle.cluster.specs.Turns.{Turns}
-use Rattle.cluster.proofs.Leaving.{left_later}
+use Rattle.cluster.specs.Ends.{TellsWrite}
+use Rattle.cluster.specs.Steps.{GoesOn, IsIdle, IsMade, LeavesSlot, Takes, TellsWriting, TurnsIn, unless, write_of}
 use Rattle.cluster.specs.Worlds.{WorldView, flow_at, flow_count}
 use Rattle.cluster.specs.declared.event.Answer.TheVariants.{Wrote, Selected, Checked, Listed, Resolved, Done}
 use Rattle.cluster.specs.declared.event.What.{What}
@@ -78,18 +77,10 @@ IsWriteFlow (flow.Write w) = Unit {0}
 IsWriteFlow other = ⊥
 
 -- how a write ended
-write_told : (end : Option WriteEnd) (told : Option What) → IfEnded TellsWrite end told → IsOfWrite told
-write_told None told is = subst IsOfWrite (sym is) tt
-write_told (Some (write_end.Wrote place)) told is = subst IsOfWrite (sym is) tt
-write_told (Some (write_end.Refused e)) told is = subst IsOfWrite (sym is) tt
-write_told (Some write_end.Cancelled) told is = subst IsOfWrite (sym is) tt
-
-end_told : (f : Flow) (told : Option What) → IsWriteFlow f → EndsWith f told → IsOfWrite told
-end_told (flow.Write w) told is ends = write_told (w.flow.seen.ended) told ends
-end_told (flow.Read v) told is ends = absurd is
-end_told (flow.Check v) told is ends = absurd is
-end_told (flow.Watch v) told is ends = absurd is
-end_told (flow.Care v) told is ends = absurd is
+write_told : (end : WriteEnd) (told : Option What) → TellsWrite end told → IsOfWrite told
+write_told (write_end.Wrote place) told is = subst IsOfWrite (sym is) tt
+write_told (write_end.Refused e) told is = subst IsOfWrite (sym is) tt
+write_told write_end.Cancelled told is = subst IsOfWrite (sym is) tt
 
 unless_told : (b : Bool) (told : Option What) → IsOfWrite told → IsOfWrite (unless b told)
 unless_told true told is = tt
@@ -103,29 +94,19 @@ module _ {D : Type 0} (gives : D → Type 0) (set : D → ℕ → Tear → Type 
   abbrev HasWrite : ℕ → WorldView D → Type 0
   HasWrite slot w = (f : Flow) → flow_at w.flows slot ≡ Some f → IsWriteFlow f
 
-  stays_write : (shards : ℕ) (old new : WorldView D) (f later : Flow) → IsWriteFlow f → Turns state honest moment left_since shards old.nodes f new.nodes later → IsWriteFlow later
-  stays_write shards old new (flow.Write w) (flow.Write x) is t = tt
-  stays_write shards old new (flow.Write w) (flow.Read x) is t = t
-  stays_write shards old new (flow.Write w) (flow.Check x) is t = t
-  stays_write shards old new (flow.Write w) (flow.Watch x) is t = t
-  stays_write shards old new (flow.Write w) (flow.Care x) is t = t
-  stays_write shards old new (flow.Read v) later is t = absurd is
-  stays_write shards old new (flow.Check v) later is t = absurd is
-  stays_write shards old new (flow.Watch v) later is t = absurd is
-  stays_write shards old new (flow.Care v) later is t = absurd is
-
   module _ (slot : ℕ) (old new : WorldView D) (told : Option What) where
-    left : (later : Flow) → IsWriteFlow later → Leaves old.flows slot later told new.flows → HasWrite slot new × IsOfWrite told
-    left later is l = by_next (next_name_of later) l.leaves
-      where
-        by_next : (next : Option CallName) → MatchOption next (HasGone old.flows slot later told new.flows) (λ name. GoesOn old.flows slot later name told new.flows) → HasWrite slot new × IsOfWrite told
-        by_next None gone = (λ f at. absurd (no_flow f (sym gone.puts.at ∙ at)), subst IsOfWrite (sym gone.tells) (unless_told (is_cancelled later) gone.end (end_told later gone.end is gone.ends)))
-        by_next (Some name) goes = (λ f at. subst IsWriteFlow (same_Some later f (sym goes.puts.at ∙ at)) is, subst IsOfWrite (sym goes.tells) (unless_told (is_cancelled later) (Some (Next name)) tt))
+    left : (is_cancelled : Bool) (turned : Progress WriteFlowValue WriteEnd) (after : Progress Flow (Option What)) → IsMade (write_of is_cancelled) (TellsWriting is_cancelled) turned after → LeavesSlot old.flows slot after told new.flows
+        → HasWrite slot new × IsOfWrite told
+    left is_cancelled (made.Next w) (made.Next f) is_made leaves =
+        let on = subst (λ (g : Flow). GoesOn old.flows slot g told new.flows) is_made leaves in
+        (λ g at. subst IsWriteFlow (same_Some (write_of is_cancelled w) g (sym on.puts.at ∙ at)) tt, subst IsOfWrite (sym on.tells) (unless_told is_cancelled (Some (Next on.name)) tt))
+    left is_cancelled (made.Ended end) (made.Ended tells) is_made leaves =
+        (λ g at. absurd (no_flow g (sym leaves.0.at ∙ at)), subst IsOfWrite (sym (leaves.1 ∙ is_made.2)) (unless_told is_cancelled is_made.0 (write_told end is_made.0 is_made.1)))
+    left is_cancelled (made.Next w) (made.Ended tells) is_made leaves = absurd is_made
+    left is_cancelled (made.Ended end) (made.Next f) is_made leaves = absurd is_made
 
     turned_write : (f : Flow) → IsWriteFlow f → TurnsIn state honest moment left_since old slot f told new → HasWrite slot new × IsOfWrite told
-    turned_write (flow.Write w) is (turn, same) =
-        let (later, turns, is_left) = turn.turns in
-        left later (stays_write old.shards old new (flow.Write w) later is turns) (left_later old.flows slot later turn.after told new.flows is_left turn.leaves)
+    turned_write (flow.Write w) is (turn, same) = left w.is_cancelled turn.turns.0 turn.after turn.turns.2 turn.leaves
     turned_write (flow.Read v) is turn = absurd is
     turned_write (flow.Check v) is turn = absurd is
     turned_write (flow.Watch v) is turn = absurd is

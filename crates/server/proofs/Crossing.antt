@@ -20,6 +20,18 @@ session_send a D B G R g h d e b c y r =
     let store = store_sync D B G g h d e b c y in
     let all : AllSend (declared.fields (Inside.the_type a D B G R g h)) = (
       search sendable,
-      (search (sendable, crosses), (search sendable, (search (sendable, crosses, seat.the_send) depth 400 fits 50000, (search (share_sync, sendable), tt)))),
+      (
+        search (sendable, crosses),
+        (
+          search sendable,
+          (
+            search sendable,
+            (
+              search (sendable, crosses, seat.the_send) depth 400 fits 50000,
+              (search (sendable, crosses) depth 400 fits 50000, (search (share_sync, sendable), tt)),
+            ),
+          ),
+        ),
+      ),
     ) in
     view_send _ _ _ _ _ (recorded_send _ _ _ (Inside.the_type a D B G R g h).to_one (struct_send (declared.shape (Inside.the_type a D B G R g h)) all))

@@ -86,7 +86,7 @@ fn node_of(file: usize) -> NodeName
     }
 }
 
-// What is known of a file whose call was this one, and which has a call of this number under way now, or none where that is 0.
+// What is known of a file whose call was this one, and which has a call of this number under way now, or none if that is 0.
 fn looked_at(
     rt: &(impl Eprint + Clock),
     now: Instant,

@@ -8,8 +8,8 @@
 //! What each answer line says is the contract of `serve_one` (`serving`) at a session of the store (`StoreSession`): the definition's value on the list that
 //! its caller has then seen, so a write stands there at its place, and rows, membership and events are those of the place that is told, as fresh as asked.
 //! It has one premise, the only one of `serve_over`: that what was found in the files rests at one list, of which the coordinator's files have what comes after
-//! its base (`IsAtRest`, whose laws say that what a stop leaves meets it, after checkpoints too). Why a request is refused the calls of `Store` say, and not
-//! these: the refusals that nodes told are let go with each request.
+//! its base (`IsAtRest`, whose laws say that what a stop leaves meets it, after checkpoints too). A refusal has its reason: a node told it, memory was refused,
+//! the place is not there, or more is asked for than an answer may have. Each token is of the store that was opened.
 //!
 //! Only tested: which fault is told, what is told of a start, of nodes that are down and of connections that wait, that `ready` is printed and when, and that the
 //! server ends.

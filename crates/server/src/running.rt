@@ -44,6 +44,7 @@ pub(crate) fn serve_store<D: Device + Send + Sync, B: Room + Send + Sync, G: Gat
 ) -> u8
 where
     R: Runtime + Net<Listener = TcpListener, Stream = TcpStream> + Threads + Wait + Sync,
+    requires of { settings.now.store ≡ B.store }
     requires found { B.rests → HasFound B.first B.low first.old.pass }
     ensures { (result ≡ 0) ⊎ (result ≡ 1) }
 {
@@ -151,25 +152,25 @@ fn sessions<'a, D: Device, B: Room, G: Gate, R: Wait>(
     alloc: Global,
     store: &'a Store<D, B, G>,
     first: &mut Caller<B>,
-    workers: u8,
+    settings: &ServeSettings,
     share: &'a Share,
 ) -> Result<Vec<StoreSession<'a, D, B, G, R>>, AllocError>
+    requires of { settings.now.store ≡ B.store }
     requires found { B.rests → HasFound B.first B.low first.old.pass }
-    ensures count { IfOk result (λ made. vec_len made ≡ workers) }
-    ensures told { IfOk result (λ made. All (λ session. B.rests → HasFound B.first B.low session) made.items) }
+    ensures count { IfOk result (λ made. vec_len made ≡ settings.now.workers) }
+    ensures told { IfOk result (λ made. All (λ session. B.rests → HasFound B.first B.low session.known) made.items) }
 {
     let mut sessions = Vec::new(alloc);
-    for _ in 0..workers {
+    for _ in 0..settings.workers {
         sessions.reserve(1)?;
         let caller = later_caller(rt, store, first);
-        sessions.push_reserved(StoreSession::new(rt, alloc, store, caller, share));
+        sessions.push_reserved(StoreSession::new(rt, alloc, store, settings.store, caller, share));
     }
     Ok(sessions)
 }
 
 // How the sessions are served.
 fn serving_of(settings: &ServeSettings) -> Serving
-    ensures store { result.store ≡ settings.now.store }
     ensures idle { result.idle ≡ settings.now.idle }
     ensures for_ever { settings.now.connections ≡ 0 → result.connections ≡ None }
     ensures so_many { 1 ≤ settings.now.connections → result.connections ≡ Some settings.now.connections }
@@ -179,7 +180,6 @@ fn serving_of(settings: &ServeSettings) -> Serving
         some => Some(some),
     };
     Serving {
-        store: settings.store,
         idle: settings.idle,
         connections,
     }
@@ -208,12 +208,13 @@ fn serve_at<D: Device + Send + Sync, B: Room + Send + Sync, G: Gate + Sync, R>(
 ) -> io::Result<()>
 where
     R: Runtime + Threads + Wait + Clock + Sync,
+    requires of { settings.now.store ≡ B.store }
     requires found { B.rests → HasFound B.first B.low first.old.pass }
     requires one_store { AreOfOneStore start.now.found.horizon start.now.found.latest start.now.found.learned.items }
 {
     let share = Share::of(settings);
     let share = &share;
-    let sessions = sessions(rt, alloc, store, first, settings.workers, share)?;
+    let sessions = sessions(rt, alloc, store, first, settings, share)?;
     let listener = &start.listener;
     let serving = serving_of(settings);
     let window = window_of(settings);
@@ -247,6 +248,6 @@ where
             &mut reporter,
         );
         store.close();
-        served
+        served?.accepted
     })
 }

@@ -17,41 +17,47 @@ use std::sync::Wait;
 use tuples::{Freshness, MAX_WATCHED, Namespace, Refusal, Tuple, Tupleset, Userset, Write};
 
 /// Answers the requests of one session after another over a store, for one caller, who goes on knowing what was seen. What a read or a check reads takes no
-/// more than the share, else it is refused with `NoMemory`.
+/// more than the share, else it is refused with `NoMemory`. What nodes refuse is noted anew for each request.
 #[derive(Drop)]
 pub struct StoreSession<'a, D: Device, B: Room, G: Gate, R: Wait> {
     rt: &'a R,
     alloc: Global,
     store: &'a Store<D, B, G>,
+    id: u64,
     caller: Caller<B>,
+    told: Told,
     share: &'a Share,
+    ghost of: { id ≡ B.store },
 }
 
 impl<'a, D: Device, B: Room, G: Gate, R: Wait> Model for StoreSession<'a, D, B, G, R> {
-    ghost use Rattle.published.specs.Known.{Known};
-    ghost use Rattle.tuples.specs.declared.entry.Entry.{Entry as AnyEntry};
+    ghost use Rattle.server.specs.Answered.{SessionValue};
 
-    ghost Value = { Known AnyEntry };
+    ghost Value = { SessionValue };
 
-    ghost view = { λ s. s.caller.pass };
+    ghost view = { λ s. record { known = s.caller.pass; told = s.told } };
 }
 
 impl<'a, D: Device, B: Room, G: Gate, R: Wait> StoreSession<'a, D, B, G, R> {
-    /// For this caller, who has seen what it has seen, within this share.
+    /// For this caller of the store with this id, who has seen what it has seen, within this share.
     pub fn new(
         rt: &'a R,
         alloc: Global,
         store: &'a Store<D, B, G>,
+        id: u64,
         caller: Caller<B>,
         share: &'a Share,
     ) -> StoreSession<'a, D, B, G, R>
-        ensures { result ≡ caller.pass }
+        requires of { id ≡ B.store }
+        ensures { result.known ≡ caller.pass }
     {
         StoreSession {
             rt,
             alloc,
             store,
+            id,
             caller,
+            told: Told::new(),
             share,
         }
     }
@@ -65,14 +71,17 @@ fn note_spent(share: &Share, told: &Told) {
 }
 
 impl<'a, D: Device, B: Room, G: Gate, R: Wait> Answers for StoreSession<'a, D, B, G, R> {
+    ghost store = { B.store };
+
     ghost gives = { λ old request result new. Answered B.rests old new request result };
 
+    fn store_id(&self) -> u64 {
+        self.id
+    }
+
     fn write(&mut self, write: Write) -> Result<Written, Refusal> {
-        let mut told = Told::new();
-        match self
-            .store
-            .write(self.rt, self.alloc, &mut self.caller, &mut told, write)
-        {
+        self.told = Told::new();
+        match self.store.write(self.rt, self.alloc, &mut self.caller, &mut self.told, write) {
             WriteEnd::Wrote(place) => Ok(Written { place }),
             WriteEnd::Refused(refusal) => Err(refusal),
             WriteEnd::Cancelled => unreachable!(),
@@ -80,16 +89,16 @@ impl<'a, D: Device, B: Room, G: Gate, R: Wait> Answers for StoreSession<'a, D, B
     }
 
     fn read(&mut self, freshness: Freshness, sets: Vec<Tupleset>) -> Result<Rows, Refusal> {
-        let mut told = Told::within(self.share.bytes());
+        self.told = Told::within(self.share.bytes());
         let end = self.store.read(
             self.rt,
             self.alloc,
             &mut self.caller,
-            &mut told,
+            &mut self.told,
             freshness,
             sets,
         );
-        note_spent(self.share, &told);
+        note_spent(self.share, &self.told);
         match end {
             ReadEnd::Answered(place, sets) => return Ok(Rows { sets, place }),
             ReadEnd::Refused(refusal) => return Err(refusal),
@@ -97,7 +106,7 @@ impl<'a, D: Device, B: Room, G: Gate, R: Wait> Answers for StoreSession<'a, D, B
     }
 
     fn check(&mut self, freshness: Freshness, tuple: Tuple) -> Result<Membership, Refusal> {
-        let mut told = Told::within(self.share.bytes());
+        self.told = Told::within(self.share.bytes());
         let Tuple {
             object,
             relation,
@@ -108,12 +117,12 @@ impl<'a, D: Device, B: Room, G: Gate, R: Wait> Answers for StoreSession<'a, D, B
             self.rt,
             self.alloc,
             &mut self.caller,
-            &mut told,
+            &mut self.told,
             freshness,
             &userset,
             user,
         );
-        note_spent(self.share, &told);
+        note_spent(self.share, &self.told);
         match end {
             CheckEnd::Answered(place, is_member) => Ok(Membership { is_member, place }),
             CheckEnd::Refused(refusal) => Err(refusal),
@@ -131,12 +140,12 @@ impl<'a, D: Device, B: Room, G: Gate, R: Wait> Answers for StoreSession<'a, D, B
         if limit > MAX_WATCHED {
             return Err(Refusal::TooLarge);
         }
-        let mut told = Told::new();
+        self.told = Told::new();
         let end = self.store.watch(
             self.rt,
             self.alloc,
             &mut self.caller,
-            &mut told,
+            &mut self.told,
             from,
             limit,
             namespaces,

@@ -1,4 +1,4 @@
--- Sessions one behind the other are as one.
+-- Sessions one after the other are as one.
 use Rattle.std.proofs.Common.{ℕ, List, [], ◌∷◌, ◌++◌, ap, ◌∙◌, sym, subst, append_assoc}
 use Rattle.sessions.specs.Sessions.{Giving, Session, reply_line}
 use Rattle.serving.specs.Working.{HasServed}

@@ -1,3 +1,4 @@
+pub mod Ending
 pub mod Protocols
 pub mod Slowness
 pub mod Working

@@ -16,7 +16,7 @@ HasLasted (Some since) now = slowest_seconds ≤ (instant_nanos now - instant_na
 abbrev pub EndsLine : List ℕ → Type 0
 EndsLine part = slice_get part (length part - 1) ≡ Some 10
 
--- Bytes were read: where they end with a line feed, no line has begun since; where none is among them, a line that had begun goes on.
+-- Bytes were read: if they end with a line feed, no line has begun since; if none is among them, a line that had begun goes on.
 pub record GoesOn (part : List ℕ) (old new : Option Instant) : Type 0 where
   pub ended : EndsLine part → new ≡ None
   pub lasts : (since : Instant) → (Contains part 10 → ⊥) → old ≡ Some since → new ≡ Some since
@@ -25,8 +25,8 @@ pub record GoesOn (part : List ℕ) (old new : Option Instant) : Type 0 where
 abbrev pub enough : ℕ
 enough = 16_384
 
--- Of the bytes that were to be taken so many were. Where that is all, it is no more waited. Else a time that runs goes on, and these count in it, until they
--- are enough: then a time runs of which none are counted, as at first, where what was taken before the time began does not count.
+-- Of the bytes that were to be taken so many were. If that is all, it is no more waited. Else a time that runs goes on, and these count in it, until they
+-- are enough: then a time runs of which none are counted, as at first, if what was taken before the time began does not count.
 pub record IsTaken (count wanted : ℕ) (since : Option Instant) (taken : ℕ) (since_now : Option Instant) (taken_now : ℕ) : Type 0 where
   pub all : count ≡ wanted → (since_now ≡ None) × (taken_now ≡ 0)
   pub much : (began : Instant) → count ≢ wanted → since ≡ Some began → enough ≤ taken + count → (since_now ≢ None) × (taken_now ≡ 0)

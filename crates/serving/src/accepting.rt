@@ -1,7 +1,10 @@
 // The acceptor puts each connection where the workers find it.
-ghost use Rattle.std.specs.Prelude.{◌≡◌, ◌≤◌, ◌+◌, ◌^◌, OnOk, IfNone, IfSome};
+ghost use Rattle.std.specs.Prelude.{◌≡◌, ◌≤◌, ◌+◌, ◌^◌, ℕ, All, OnOk, IfNone, IfOk, IfSome, vec_len};
+ghost use Rattle.serving.specs.Ending.{HasAccepted, HaveTakenAll};
 
 use crate::crowd::Crowd;
+use crate::ended::Ended;
+use crate::gathering::{Thread, finish, gather_all};
 use crate::hall::Hall;
 use crate::report::Report;
 use connections::AcceptorPass;
@@ -11,13 +14,13 @@ use std::io::{self, ErrorKind};
 use std::net::{TcpListener, TcpStream};
 use std::os::fd::OwnedFd;
 use std::sync::Wait;
-use std::thread;
+use std::thread::{self, Threads};
 use std::time::{Clock, Duration};
 
 // A read or an accept that waits longer is a tick, and a write that does is made again.
 const TICK_SECONDS: u64 = 1;
 
-// How long it waits after an accept that failed, as where too many files are open.
+// How long it waits after an accept that failed, as when too many files are open.
 const PAUSE_MILLISECONDS: u64 = 100;
 
 // No server accepts so many.
@@ -34,14 +37,41 @@ pub(crate) struct Acceptor<'a> {
 }
 
 impl Acceptor<'_> {
-    /// Accepts until so many connections were put, or for ever. It ends with an error where the listener is broken or the report gives one.
-    pub(crate) fn accept_all<R: Wait + Clock, N: Report>(
+    /// Accepts until so many connections were put, or for ever, and closes. Once each worker has ended, all passes are gathered.
+    pub(crate) fn accept_and_gather<R: Threads + Wait + Clock, N: Report>(
+        self,
+        rt: &R,
+        connections: Option<u64>,
+        report: &mut N,
+        threads: Vec<Thread>,
+    ) -> io::Result<Ended>
+        requires none { self.pass.put ≡ 0 }
+        requires passes { self.pass.passes ≡ vec_len threads + 1 }
+        requires threads { All (λ thread. thread.promise.0.value ≡ self.hall.now.queue) threads.items }
+        ensures { IfOk result (λ ended. (put : ℕ) × HaveTakenAll (vec_len threads) put ended.pass × HasAccepted connections put ended.accepted) }
+    {
+        let mut acceptor = self;
+        let accepted = acceptor.accept_all(rt, connections, report);
+        match &accepted {
+            Ok(()) => acceptor.close(),
+            Err(_) => acceptor.end(),
+        }
+        let Acceptor { hall, pass, .. } = acceptor;
+        let pass = gather_all(rt, hall, pass.close(), threads);
+        let pass = finish(rt, hall, pass)?;
+        Ok(Ended { pass, accepted })
+    }
+
+    // Accepts until so many connections were put, or for ever. It ends with an error if the listener is broken or the report gives one.
+    fn accept_all<R: Wait + Clock, N: Report>(
         &mut self,
         rt: &R,
         connections: Option<u64>,
         report: &mut N,
     ) -> io::Result<()>
         requires { self.old.pass.put ≡ 0 }
+        ensures pass { self.new.pass.passes ≡ self.old.pass.passes }
+        ensures hall { self.new.hall ≡ self.old.hall }
         ensures so_many { OnOk result (IfSome connections (λ n. self.new.pass.put ≡ n)) }
         ensures for_ever { OnOk result (IfNone connections (2 ^ 62 ≤ self.new.pass.put)) }
     {
@@ -60,7 +90,8 @@ impl Acceptor<'_> {
 
     // Tells where connections wait, and that time passes.
     fn look_around<C: Clock, N: Report>(&mut self, clock: &C, report: &mut N) -> io::Result<()>
-        ensures { self.new.pass ≡ self.old.pass }
+        ensures pass { self.new.pass ≡ self.old.pass }
+        ensures hall { self.new.hall ≡ self.old.hall }
     {
         let waiting = self.hall.signs.waiting();
         if self.crowd.has_lasted(clock, self.pass.count(), waiting) {
@@ -71,7 +102,9 @@ impl Acceptor<'_> {
 
     // One whose socket cannot be set up is closed.
     fn admit<R: Wait>(&mut self, rt: &R, stream: TcpStream)
-        ensures { self.new.pass.put ≤ self.old.pass.put + 1 }
+        ensures put { self.new.pass.put ≤ self.old.pass.put + 1 }
+        ensures passes { self.new.pass.passes ≡ self.old.pass.passes }
+        ensures hall { self.new.hall ≡ self.old.hall }
     {
         if self.pass.count() < CONNECTIONS && set_up(&stream).is_ok() {
             self.hall.put(rt, &mut self.pass, stream);
@@ -92,21 +125,21 @@ impl Acceptor<'_> {
         self.ring();
     }
 
-    /// The workers end behind the requests that they answer.
-    pub(crate) fn end(&self) {
+    // The workers end after the requests that they answer.
+    fn end(&self) {
         self.hall.signs.end();
         self.ring();
     }
 }
 
-/// From now on an accept fails with `WouldBlock` where nobody has connected for a second.
+/// From now on an accept fails with `WouldBlock` if nobody has connected for a second.
 pub(crate) fn let_tick(listener: &TcpListener) -> io::Result<()> {
     // The option is one of any socket, and a listener has no call for it.
     let socket = TcpStream::from(OwnedFd::from(listener.try_clone()?));
     socket.set_read_timeout(Some(Duration::from_secs(TICK_SECONDS)))
 }
 
-// The next connection. None where there is none in time, or none can be taken for now: short of descriptors or memory the server goes on.
+// The next connection. None if there is none in time, or none can be taken for now: short of descriptors or memory the server goes on.
 fn accept_next<C: Clock, N: Report>(
     clock: &C,
     listener: &TcpListener,

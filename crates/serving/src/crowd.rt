@@ -23,8 +23,8 @@ impl Crowd {
         }
     }
 
-    /// Whether one of those that waited a second ago does still, where so many have come and so many of them wait. They are taken in the order in which they
-    /// came. It is told at most once a second, and never where the clock can't be read.
+    /// Whether one of those that waited a second ago does still, if so many have come and so many of them wait. They are taken in the order in which they
+    /// came. It is told at most once a second, and never if the clock can't be read.
     pub(crate) fn has_lasted<C: Clock>(&mut self, clock: &C, come: u64, waiting: u64) -> bool
         ensures waits { result ≡ true → 0 < waiting }
         ensures came { result ≡ true → come < self.old.last + waiting }

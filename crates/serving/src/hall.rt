@@ -1,5 +1,7 @@
 // What the threads of a server share: where connections wait, and what sessions are told.
-ghost use Rattle.std.specs.Prelude.{◌≡◌, ◌<◌, ◌^◌, ◌≤◌, ◌+◌};
+ghost use Rattle.std.specs.Prelude.{◌≡◌, ◌<◌, ◌^◌, ◌≤◌, ◌+◌, IfNone, ℕ};
+ghost use Rattle.connections.specs.Ends.{IsWhole};
+ghost use Rattle.connections.specs.Numbers.{IsEach};
 
 use crate::signs::Signs;
 use connections::{AcceptorPass, Connections, WorkerPass};
@@ -13,7 +15,7 @@ pub(crate) struct Hall {
 }
 
 impl Hall {
-    /// A connection waits for a worker from now on, or is closed at once where 1,024 wait.
+    /// A connection waits for a worker from now on, or is closed at once if 1,024 wait.
     pub(crate) fn put<R: Wait>(
         &self,
         rt: &R,
@@ -22,7 +24,7 @@ impl Hall {
     )
         requires queue { acceptor.old.queue ≡ self.now.queue }
         requires number { acceptor.old.put < 2 ^ 62 }
-        ensures queue { acceptor.new.queue ≡ acceptor.old.queue }
+        ensures queue { (acceptor.new.queue ≡ acceptor.old.queue) × (acceptor.new.passes ≡ acceptor.old.passes) }
         ensures number { acceptor.new.put ≤ acceptor.old.put + 1 }
     {
         // Before it can be taken, so that no more are taken than were counted.
@@ -32,14 +34,16 @@ impl Hall {
         }
     }
 
-    /// The connection that has waited longest.
+    /// The connection that has waited longest. Once all passes are gathered in this one, None says that each connection that was put was taken once.
     pub(crate) fn take<R: Wait>(
         &self,
         rt: &R,
         worker: &mut WorkerPass<TcpStream>,
     ) -> Option<TcpStream>
         requires queue { worker.old.queue ≡ self.now.queue }
-        ensures queue { worker.new.queue ≡ worker.old.queue }
+        ensures pass { (worker.new.queue ≡ worker.old.queue) × (worker.new.passes ≡ worker.old.passes) × (worker.new.end ≡ worker.old.end) }
+        ensures none { IfNone result (worker.new ≡ worker.old) }
+        ensures each { IfNone result ((put : ℕ) → IsWhole worker.old put → IsEach put worker.old.taken) }
     {
         let (_, stream) = self.queue.take(rt, worker)?;
         self.signs.remove_waiting();

@@ -14,7 +14,7 @@ pub struct Patience<'a> {
 }
 
 impl Patience<'_> {
-    /// One more tick, by what the signs told of it. Whether the session is cut: exactly where the server closes, or where others wait and it was idle for
+    /// One more tick, by what the signs told of it. Whether the session is cut: exactly if the server closes, or if others wait and it was idle for
     /// the ticks that it may be.
     pub fn tick(&mut self, others_wait: bool, is_closing: bool) -> bool
         ensures idle { self.new.idle ≡ self.old.idle }
@@ -35,7 +35,7 @@ impl Patience<'_> {
     }
 }
 
-// Whether a session is cut behind so many ticks in a row.
+// Whether a session is cut after so many ticks in a row.
 fn is_cut(ticks: u64, idle: u64, others_wait: bool, is_closing: bool) -> bool
     ensures cut { result ≡ true → (is_closing ≡ true) ⊎ ((others_wait ≡ true) × (0 < idle) × (idle ≤ ticks)) }
     ensures kept { result ≡ false → (is_closing ≡ false) × ((others_wait ≡ false) ⊎ (idle ≡ 0) ⊎ (ticks < idle)) }

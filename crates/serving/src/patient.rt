@@ -1,4 +1,4 @@
-// A reader that reads again where a read found nothing in time.
+// A reader that reads again if a read found nothing in time.
 ghost use Rattle.std.specs.Prelude.{◌≡◌, ◌≢◌, ◌<◌, ◌↔◌, IfOk, IsTrue, None, OnOk, take};
 ghost use Rattle.std.specs.Io.{ReadsAtMost};
 ghost use Rattle.std.specs.Io.KnownBytes.{ReadConsumes};
@@ -10,13 +10,13 @@ use std::io::{self, ErrorKind, Read};
 use std::time::{Clock, Instant};
 
 /// Reads as its input does. But each read that found nothing in time is a tick, and it reads again, until its patience ends: then the read
-/// fails as that one did. Where a line has not ended for too long and others wait, no more of it is read, and nothing is where the server ends.
+/// fails as that one did. If a line has not ended for too long and others wait, no more of it is read, and nothing is if the server ends.
 #[derive(Drop)]
 pub struct Patient<'a, R, C> {
     pub input: R,
     pub clock: &'a C,
     pub patience: Patience<'a>,
-    /// Since when there is a part of a line without its end. None where the last that was read ended one.
+    /// Since when there is a part of a line without its end. None if the last that was read ended one.
     pub line_since: Option<Instant>,
 }
 
@@ -31,7 +31,7 @@ fn ends_line(part: &[u8]) -> bool
 }
 
 impl<R, C: Clock> Patient<'_, R, C> {
-    // Whether a line has kept others waiting for as long as it may. One whose session may be idle for ever may take as long as it likes. Nothing is late where
+    // Whether a line has kept others waiting for as long as it may. One whose session may be idle for ever may take as long as it likes. Nothing is late if
     // the clock can't be read.
     fn is_late(&self) -> bool
         ensures only { IsTrue result → (self.now.line_since ≢ None) × (0 < self.now.patience.idle) }
@@ -45,7 +45,7 @@ impl<R, C: Clock> Patient<'_, R, C> {
         is_over(self.line_since, self.clock)
     }
 
-    // Notes what was read: a part that ends a line, one behind whose last line feed the next line begins, or one of the same line. Where the clock can't be
+    // Notes what was read: a part that ends a line, one after whose last line feed the next line begins, or one of the same line. If the clock can't be
     // read, a line begins with its next part.
     fn note(&mut self, part: &[u8])
         ensures line { GoesOn part.now self.old.line_since self.new.line_since }

@@ -9,16 +9,16 @@ use crate::slowness::{ENOUGH, begun, is_over};
 use std::io::{self, ErrorKind, Write};
 use std::time::{Clock, Instant};
 
-/// Writes as its output does, and again where that took nothing in time, until nothing was taken for too long. Where a client has not taken all for too long,
-/// nor much of it, and others wait, no more is written either; and where the server ends, what is not taken at once is not written.
+/// Writes as its output does, and again if that took nothing in time, until nothing was taken for too long. If a client has not taken all for too long,
+/// nor much of it, and others wait, no more is written either; and if the server ends, what is not taken at once is not written.
 #[derive(Drop)]
 pub struct Pressing<'a, W, C> {
     pub output: W,
     pub clock: &'a C,
     pub signs: &'a Signs,
-    /// Since when a part of what was to be written is not taken, or since it last was enough. None where all was.
+    /// Since when a part of what was to be written is not taken, or since it last was enough. None if all was.
     pub since: Option<Instant>,
-    /// How many bytes were taken since. Nothing where that is none.
+    /// How many bytes were taken since. Nothing if that is none.
     pub taken: usize,
 }
 
@@ -33,7 +33,7 @@ impl<W, C: Clock> Pressing<'_, W, C> {
         is_over(self.since, self.clock)
     }
 
-    // Notes that so many of these bytes were taken, for which it was waited since then. Where the clock can't be read, a time that runs goes on, and else one
+    // Notes that so many of these bytes were taken, for which it was waited since then. If the clock can't be read, a time that runs goes on, and else one
     // begins with the next part.
     fn note(&mut self, count: usize, wanted: usize, waited: Option<Instant>)
         ensures taken { IsTaken count wanted self.old.since self.old.taken self.new.since self.new.taken }

@@ -9,6 +9,6 @@ pub trait Report {
     /// No connection could be taken, for this reason. It is tried again, and told each time.
     fn refused(&mut self, error: &io::Error);
 
-    /// A second has passed since the last time, or less. An error ends the server: each session ends behind the request that it answers.
+    /// A second has passed since the last time, or less. An error ends the server: each session ends after the request that it answers.
     fn tick(&mut self) -> io::Result<()>;
 }

@@ -15,17 +15,16 @@ use std::time::Clock;
 /// begins as HTTP or TLS no line is taken and nothing is written: a web page can make a browser send such a connection, and its lines would be requests.
 pub fn serve_one<R: Read, W: Write, C: Clock, A: Answers>(
     alloc: Global,
-    store: u64,
     input: &mut Guarded<Patient<'_, R, C>>,
     output: &mut Pressing<'_, W, C>,
     answers: &mut A,
 ) -> io::Result<()>
-    ensures ok { OnOk result (Served store A.gives (left (λ p. R.remaining p.input) input.old) (left (λ p. R.remaining p.input) input.new) (W.contents output.old.output) (W.contents output.new.output) answers.old answers.new) }
-    ensures err { OnErr result (Broke store A.gives (left (λ p. R.remaining p.input) input.old) (left (λ p. R.remaining p.input) input.new) (W.contents output.old.output) (W.contents output.new.output) answers.old answers.new) }
+    ensures ok { OnOk result (Served A.store A.gives (left (λ p. R.remaining p.input) input.old) (left (λ p. R.remaining p.input) input.new) (W.contents output.old.output) (W.contents output.new.output) answers.old answers.new) }
+    ensures err { OnErr result (Broke A.store A.gives (left (λ p. R.remaining p.input) input.old) (left (λ p. R.remaining p.input) input.new) (W.contents output.old.output) (W.contents output.new.output) answers.old answers.new) }
     ensures other { IfSome (left (λ p. R.remaining p.input) input.old) (λ bytes. BeginsOther bytes → IsErr result × (output.new ≡ output.old) × (answers.new ≡ answers.old)) }
 {
     if input.begins_other()? {
         return Err(ErrorKind::InvalidData.into());
     }
-    serve_stream(alloc, store, input, output, answers)
+    serve_stream(alloc, input, output, answers)
 }

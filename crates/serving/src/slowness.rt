@@ -20,7 +20,7 @@ fn has_lasted(since: Option<Instant>, now: Instant) -> bool
     }
 }
 
-/// An instant now, where there is none; none where the clock can't be read either.
+/// An instant now, if there is none; none if the clock can't be read either.
 pub(crate) fn begun<C: Clock>(since: Option<Instant>, clock: &C) -> Option<Instant>
     ensures { since ≢ None → result ≡ since }
 {
@@ -30,7 +30,7 @@ pub(crate) fn begun<C: Clock>(since: Option<Instant>, clock: &C) -> Option<Insta
     }
 }
 
-/// Whether what began then has lasted for as long as it may. Nothing has where the clock can't be read.
+/// Whether what began then has lasted for as long as it may. Nothing has if the clock can't be read.
 pub(crate) fn is_over<C: Clock>(since: Option<Instant>, clock: &C) -> bool
     ensures only { IsTrue result → since ≢ None }
 {

@@ -1,5 +1,5 @@
 // A worker serves one connection after another.
-ghost use Rattle.std.specs.Prelude.{◌≡◌, List, OnErr, OnOk, Option, ℕ};
+ghost use Rattle.std.specs.Prelude.{◌≡◌, List, None, OnErr, OnOk, Option, ℕ};
 ghost use Rattle.sessions.specs.Sessions.{Broke, Served};
 ghost use Rattle.serving.specs.Working.{HasServed};
 
@@ -26,13 +26,29 @@ pub(crate) struct Worker<'a, A> {
     pub(crate) parker: Parker,
     pub(crate) pass: WorkerPass<TcpStream>,
     pub(crate) answers: A,
-    ghost queue: { pass.queue ≡ hall.now.queue },
+    ghost own: { (pass.queue ≡ hall.now.queue) × (pass.passes ≡ 1) × (pass.end ≡ None) },
 }
 
-impl<A: Answers> Worker<'_, A> {
-    /// Takes connections and serves them, until the server closes and none waits.
-    pub(crate) fn work<R: Wait + Clock>(&mut self, rt: &R, alloc: Global, serving: &Serving)
-        ensures { HasServed serving.now.store A.gives self.old.answers self.new.answers }
+impl<A: Answers + Drop> Worker<'_, A> {
+    /// Serves as `work` does, and gives its pass back.
+    pub(crate) fn serve_all<R: Wait + Clock>(
+        self,
+        rt: &R,
+        alloc: Global,
+        serving: &Serving,
+    ) -> WorkerPass<TcpStream>
+        ensures { (result.queue ≡ self.entry.hall.now.queue) × (result.passes ≡ 1) × (result.end ≡ None) }
+    {
+        let mut worker = self;
+        worker.work(rt, alloc, serving);
+        let Worker { pass, .. } = worker;
+        pass
+    }
+
+    // Takes connections and serves them, until the server closes and none waits.
+    fn work<R: Wait + Clock>(&mut self, rt: &R, alloc: Global, serving: &Serving)
+        ensures hall { self.new.hall ≡ self.old.hall }
+        ensures asked { HasServed A.store A.gives self.old.answers self.new.answers }
     {
         for _ in rt.forever() {
             // Before the take, so that what was put before the close is taken.
@@ -74,9 +90,9 @@ fn serve<S: Read + Write + Copy, C: Clock, A: Answers>(
     stream: &mut S,
     answers: &mut A,
 ) -> io::Result<()>
-    ensures ok { OnOk result ((left : Option (List ℕ)) × Served serving.now.store A.gives (S.remaining stream.old) left (S.contents stream.old) (S.contents stream.new) answers.old answers.new) }
-    ensures err { OnErr result ((left : Option (List ℕ)) × Broke serving.now.store A.gives (S.remaining stream.old) left (S.contents stream.old) (S.contents stream.new) answers.old answers.new) }
-    ensures asked { HasServed serving.now.store A.gives answers.old answers.new }
+    ensures ok { OnOk result ((left : Option (List ℕ)) × Served A.store A.gives (S.remaining stream.old) left (S.contents stream.old) (S.contents stream.new) answers.old answers.new) }
+    ensures err { OnErr result ((left : Option (List ℕ)) × Broke A.store A.gives (S.remaining stream.old) left (S.contents stream.old) (S.contents stream.new) answers.old answers.new) }
+    ensures asked { HasServed A.store A.gives answers.old answers.new }
 {
     let patient = Patient {
         input: *stream,
@@ -96,7 +112,7 @@ fn serve<S: Read + Write + Copy, C: Clock, A: Answers>(
         since: None,
         taken: 0,
     };
-    let served = serve_one(alloc, serving.store, &mut input, &mut output, answers);
+    let served = serve_one(alloc, &mut input, &mut output, answers);
     // What was written by this handle, the stream has.
     *stream = output.output;
     served

@@ -130,7 +130,7 @@ module _ {A : Type 0} (store : ℕ) (gives : Giving A) (first : A) (got written 
     of_phase = refl;
   }
 
-  -- the input has ended, and what stands behind the last line feed is answered
+  -- the input has ended, and what stands after the last line feed is answered
   pub ended_with : (then_waiting : List ℕ) → (s : Stood Open) → left ≡ [] → then_waiting ≡ waiting ++ end_text s.front → Standing store gives first got written line left then_waiting Ended now
   ended_with then_waiting s none e = record {
     lines = s.lines;
@@ -208,7 +208,7 @@ module _ {A : Type 0} (store : ℕ) (gives : Giving A) (first : A) (got written 
 -- ---- over a reader and a writer
 
 module _ {A : Type 0} (store : ℕ) (gives : Giving A) (first : A) (got written : List ℕ) (line : Line) (left waiting : List ℕ) (now : A) (in0 in1 out0 out1 out2 : Option (List ℕ)) where
-  -- what is written where a beginning of what waited was
+  -- what is written if a beginning of what waited was
   begun_of : (p : Phase) → (s : Standing store gives first got written line left waiting p now) → Appends out0 out1 written → HasBegun out1 out2 waiting → HasBegun out0 out2 (s.text ++ s.end)
   begun_of p s before h = record {
     sent = written ++ h.sent;

@@ -1,4 +1,4 @@
--- What a session's histories say behind one more call.
+-- What a session's histories say after one more call.
 use Rattle.std.proofs.Common.{◌≡◌, ℕ, List, [], ◌∷◌, ◌++◌, take, drop, Result, Ok, Err, OnOk, OnErr, refl, ap, ◌∙◌, sym, subst, Option, take-append-drop}
 use Rattle.std.proofs.lemmas.List.{flat_map_more}
 use Rattle.line_io.specs.declared.held.Block.{Block}
@@ -24,7 +24,7 @@ module _ {A : Type 0} (store : ℕ) (gives : Giving A) (first : A) (line : Line)
       subst (λ (l : List ℕ). Standing store gives first l written line left waiting p first) (sym no_got)
       (subst (λ (l : List ℕ). Standing store gives first [] l line left waiting p first) (sym no_written) (at_first store gives first line left waiting p held none empty going))
 
-  -- where all was looked at, a block came
+  -- if all was looked at, a block came
   pub block_came : (items new : List (Option Block × Unit {0})) (written left : List ℕ) (b : Option Block) (p : Phase) → p ≡ Open → Standing store gives first (all_read items) written line left waiting p now
       → left ≡ [] → new ≡ items ++ (b, tt) ∷ [] → Standing store gives first (all_read new) written line (left_of b) waiting Open now
   block_came items new written left b p is s none e =
@@ -47,7 +47,7 @@ module _ {A : Type 0} (store : ℕ) (gives : Giving A) (first : A) (got written 
       subst (λ (l : List ℕ). Standing store gives first got written that_line l that_waiting that_phase now) (sym is_left)
       (held_by store gives first got written line left waiting now p that_line that_waiting that_phase s is_line is_waiting is_phase)
 
-  -- the input has ended, and memory for what stands behind the last line feed was refused or not
+  -- the input has ended, and memory for what stands after the last line feed was refused or not
   pub ended_or_not : {T E : Type 0} (r : Result T E) → Standing store gives first got written line left waiting p now → p ≡ Open → left ≡ [] → that_line ≡ line → that_left ≡ left
       → OnOk r ((last : List ℕ) → Holds line last → that_waiting ≡ waiting ++ end_text last) → OnOk r (that_phase ≡ Ended) → OnErr r (that_waiting ≡ waiting) → OnErr r (that_phase ≡ p)
       → Standing store gives first got written that_line that_left that_waiting that_phase now

@@ -29,7 +29,7 @@ abbrev pub phase_after : Turn → Phase
 phase_after turn.Broken = Broken
 phase_after _ = Open
 
--- The line is replied to. The text of the reply waits behind the other ones, or there was no memory for it.
+-- The line is replied to. The text of the reply waits after the other ones, or there was no memory for it.
 pub record AnswersLine {A : Type 0} (has_text : Bool) (store : ℕ) (gives : Giving A) (a : A) (line old new : List ℕ) (b : A) : Type 0 where
   pub reply : Result Answer Refusal
   pub replies : RepliesTo store gives a line reply b
@@ -57,20 +57,20 @@ pub record Standing {A : Type 0} (store : ℕ) (gives : Giving A) (first : A) (g
   pub whole : text ++ end ≡ written ++ (waiting ++ lost)
   pub of_phase : OfPhase p front left end lost
 
--- what a machine holds, where this was read and this is written
+-- what a machine holds, if this was read and this is written
 abbrev pub Stands : {A : Type 0} → ℕ → Giving A → A → List ℕ → List ℕ → Machine → A → Type 0
 Stands store gives first got written m now = Standing store gives first got written m.line (left_of m.block) (unsent m.waiting) m.phase now × IsBounded store m.waiting.bytes.items
 
--- whatever was read and is written, the second machine stands for it where the first does
+-- whatever was read and is written, the second machine stands for it if the first does
 abbrev pub StandsOn : {A : Type 0} → ℕ → Giving A → Machine → A → Machine → A → Type 0
 StandsOn {A} store gives old a new b = (first : A) (got written : List ℕ) → Stands store gives first got written old a → Stands store gives first got written new b
 
--- and where no whole line is left to answer, nothing is left but the line that has begun
+-- and if no whole line is left to answer, nothing is left but the line that has begun
 abbrev pub GoesOn : {A : Type 0} → Turn → ℕ → Giving A → Machine → A → Machine → A → Type 0
 GoesOn {A} t store gives old a new b =
     (first : A) (got written : List ℕ) → Stands store gives first got written old a → Stands store gives first got written new b × (t ≡ turn.Idle → left_of new.block ≡ [])
 
--- all that was read, by the block behind each read
+-- all that was read, by the block after each read
 abbrev pub all_read : List (Option Block × Unit {0}) → List ℕ
 all_read = flat_map (λ (p : Option Block × Unit {0}). left_of p.0)
 

@@ -54,7 +54,7 @@ Session {A} store gives a (line ∷ lines) text c =
 abbrev pub joined : List (List ℕ) → List ℕ
 joined = flat_map (λ line. line ++ 10 ∷ [])
 
--- the text for what stands behind the last line feed: nothing for nothing
+-- the text for what stands after the last line feed: nothing for nothing
 abbrev pub refused_text : Option Refusal → List ℕ
 refused_text None = []
 refused_text (Some e) = refusal_line e ++ 10 ∷ []
@@ -74,7 +74,7 @@ pub record Served {A : Type 0} (store : ℕ) (gives : Giving A) (in_before in_af
   pub session : Session store gives a lines text b
   pub written : Appends out_before out_after (text ++ end_text last)
 
--- Lines were read and answered, and a beginning of their session was written; of the end too, where the input has ended.
+-- Lines were read and answered, and a beginning of their session was written; of the end too, if the input has ended.
 pub record Broke {A : Type 0} (store : ℕ) (gives : Giving A) (in_before in_after out_before out_after : Option (List ℕ)) (a b : A) : Type 0 where
   pub lines : List (List ℕ)
   pub rest : List ℕ

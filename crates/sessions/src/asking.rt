@@ -1,5 +1,5 @@
 // What answers the requests of a session.
-ghost use Rattle.std.specs.Prelude.{Result};
+ghost use Rattle.std.specs.Prelude.{◌≡◌, Result, ℕ};
 ghost use Rattle.answers.specs.declared.answer.Answer.{Answer as AnyAnswer};
 ghost use Rattle.refusal.specs.declared.refusal.Refusal.{Refusal as AnyRefusal};
 ghost use Rattle.tuples.specs.declared.request.Request.{Request as AnyRequest};
@@ -8,10 +8,17 @@ ghost use Rattle.sessions.specs.Sessions.{told};
 use answers::{Answer, Events, Membership, Rows, Written};
 use tuples::{Freshness, Namespace, Refusal, Request, Tuple, Tupleset, Write};
 
-/// What answers requests, one call for each op.
+/// What answers the requests of one store, one call for each op.
 pub trait Answers {
+    /// The id of that store.
+    ghost store: { ℕ };
+
     /// It may give this answer or refusal to the request, and is then that.
     ghost gives: { Self → AnyRequest → Result AnyAnswer AnyRefusal → Self → Type 0 };
+
+    /// The id of the store, of which each token is.
+    fn store_id(&self) -> u64
+        ensures { result ≡ store };
 
     fn write(&mut self, write: Write) -> Result<Written, Refusal>
         ensures { gives self.old (Request.Write write) (told (λ a. Answer.Written a) result) self.new };

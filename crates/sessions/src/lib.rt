@@ -1,7 +1,7 @@
 //! Sessions: request lines that come, and answer lines that go.
 //!
 //! Keeps: each line gets one answer, in the order of the lines; what is written is the session of what was read, or a beginning of it
-//! where a read, a write or memory for an answer failed.
+//! if a read, a write or memory for an answer failed.
 //! Never: answers a line twice, holds more than one line, reads on while an answer waits, or answers a line while a block or more waits.
 //! Callers rely on: nothing is asked of `Answers` but the requests of the lines, each once and in order.
 //!

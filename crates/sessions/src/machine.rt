@@ -62,7 +62,7 @@ impl Machine {
         }
     }
 
-    /// Reads once, where all that was read is looked at and nothing waits to be written: who sent these lines may wait for their
+    /// Reads once, if all that was read is looked at and nothing waits to be written: who sent these lines may wait for their
     /// answers. Whether bytes came: none at the end of the input. A read that failed gives the block back.
     pub(crate) fn read_from<R: Reader>(&mut self, alloc: Global, input: &mut R) -> io::Result<bool>
         requires looked { left_of self.old.block ≡ [] }
@@ -152,7 +152,7 @@ impl Machine {
         self.waiting.push(&reply, store)
     }
 
-    /// The input has ended: answers what stands behind the last line feed. Where memory for that is refused nothing has changed.
+    /// The input has ended: answers what stands after the last line feed. If memory for that is refused nothing has changed.
     pub(crate) fn end(&mut self, store: u64) -> Result<(), AllocError>
         requires { length (unsent self.old.waiting) < 16_384 }
         ensures ok { OnOk result ((last : List ℕ) → Holds self.old.line last → unsent self.new.waiting ≡ unsent self.old.waiting ++ end_text last) }
@@ -167,7 +167,7 @@ impl Machine {
         Ok(())
     }
 
-    // Answers what stands behind the last line feed, if anything does.
+    // Answers what stands after the last line feed, if anything does.
     fn answer_end(&mut self, store: u64) -> Result<(), AllocError>
         requires { length (unsent self.old.waiting) < 16_384 }
         ensures ok { OnOk result ((last : List ℕ) → Holds self.old.line last → unsent self.new.waiting ≡ unsent self.old.waiting ++ end_text last) }
@@ -191,7 +191,7 @@ impl Machine {
         }
     }
 
-    /// Gives back the memory of the block where all of it is looked at, and of the answers where none waits.
+    /// Gives back the memory of the block if all of it is looked at, and of the answers if none waits.
     pub(crate) fn park(&mut self, alloc: Global)
         ensures left { left_of self.new.block ≡ left_of self.old.block }
         ensures waiting { unsent self.new.waiting ≡ unsent self.old.waiting }

@@ -14,10 +14,24 @@ use line_io::{Reader, Writer, send_all};
 use std::alloc::Global;
 use std::io::{self, ErrorKind};
 
-/// Answers the lines of the input at the store with this id, each as soon as it stands alone in what was read, until the input
-/// ends. A line has at most 262,144 bytes without its line feed. An error ends the session: of a read, of a write, or of memory for
-/// a block or the text of an answer.
+/// Answers the lines of the input, each as soon as it stands alone in what was read, until the input ends. A line has at most 262,144 bytes without its line
+/// feed. An error ends the session: of a read, of a write, or of memory for a block or the text of an answer.
 pub fn serve_stream<R: Reader, W: Writer, A: Answers>(
+    alloc: Global,
+    input: &mut R,
+    output: &mut W,
+    answers: &mut A,
+) -> io::Result<()>
+    ensures ok { OnOk result (Served A.store A.gives (R.remaining input.old) (R.remaining input.new) (W.contents output.old) (W.contents output.new) answers.old answers.new) }
+    ensures err { OnErr result (Broke A.store A.gives (R.remaining input.old) (R.remaining input.new) (W.contents output.old) (W.contents output.new) answers.old answers.new) }
+    ensures cause { IfErr result (IsCause (EitherTells R.tells W.tells)) }
+{
+    let store = answers.store_id();
+    serve_lines(alloc, store, input, output, answers)
+}
+
+// Answers the lines of the input for the store with this id.
+fn serve_lines<R: Reader, W: Writer, A: Answers>(
     alloc: Global,
     store: u64,
     input: &mut R,
@@ -59,7 +73,7 @@ fn write_waiting<W: Writer>(output: &mut W, waiting: &mut Waiting) -> io::Result
     Ok(())
 }
 
-// Reads the next bytes where no whole line is left. Whether the session goes on: not at the end of the input.
+// Reads the next bytes if no whole line is left. Whether the session goes on: not at the end of the input.
 fn read_on<R: Reader>(
     alloc: Global,
     turn: Turn,

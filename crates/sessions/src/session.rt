@@ -14,7 +14,7 @@ use line_io::{Block, Reader};
 use std::alloc::{AllocError, Global};
 use std::io;
 
-/// One client's session, which any thread may go on with: read into it, `answer`, write its `output` and tell it by `sent`, and `park` it where
+/// One client's session, which any thread may go on with: read into it, `answer`, write its `output` and tell it by `sent`, and `park` it if
 /// nothing is to be read.
 #[derive(Drop)]
 pub struct Session<A: Answers> {
@@ -23,7 +23,7 @@ pub struct Session<A: Answers> {
     store: u64,
     // its answers as they were given to it
     first: Log<A, ()>,
-    // the block behind each read
+    // the block after each read
     read: Log<Option<Block>, ()>,
     // what waited before each write, and how much of it was written
     written: Log<Waiting, usize>,
@@ -32,12 +32,13 @@ pub struct Session<A: Answers> {
 
 impl<A: Answers> Session<A> {
     /// Nothing was read or written. It takes no memory.
-    pub fn new(alloc: Global, store: u64, answers: A) -> Session<A>
+    pub fn new(alloc: Global, answers: A) -> Session<A>
         ensures first { result.first.items ≡ (answers, tt) ∷ [] }
-        ensures store { result.store ≡ store }
+        ensures store { result.store ≡ A.store }
         ensures none { (all_read result.read.items ≡ []) × (all_written result.written.items ≡ []) }
         ensures ready { (left_of result.machine.block ≡ []) × (unsent result.machine.waiting ≡ []) × (result.machine.phase ≡ Phase.Open) }
     {
+        let store = answers.store_id();
         let machine = Machine::new(alloc);
         let first = Log::new().and(&answers, &());
         let read = Log::new();
@@ -61,7 +62,7 @@ impl<A: Answers> Session<A> {
             && self.output().is_empty()
     }
 
-    /// Reads once, where no whole line is left and nothing waits to be written. Whether bytes came: none at the end of the input, which `end` is told.
+    /// Reads once, if no whole line is left and nothing waits to be written. Whether bytes came: none at the end of the input, which `end` is told.
     pub fn read_from<R: Reader>(&mut self, alloc: Global, input: &mut R) -> io::Result<bool>
         requires open { self.old.machine.phase ≡ Phase.Open }
         requires looked { left_of self.old.machine.block ≡ [] }
@@ -77,7 +78,7 @@ impl<A: Answers> Session<A> {
         Ok(has_bytes)
     }
 
-    /// Answers whole lines: until none is left, a block of answers waits, or so many were answered. None where it has ended or broken.
+    /// Answers whole lines: until none is left, a block of answers waits, or so many were answered. None if it has ended or broken.
     pub fn answer(&mut self, alloc: Global, most: usize) -> Turn
         ensures idle { result ≡ Turn.Idle → self.old.machine.phase ≡ Phase.Open → (left_of self.new.machine.block ≡ []) × (self.new.machine.phase ≡ Phase.Open) }
         ensures rest { (self.new.first ≡ self.old.first) × (self.new.store ≡ self.old.store) × (self.new.read ≡ self.old.read) × (self.new.written ≡ self.old.written) }
@@ -91,7 +92,7 @@ impl<A: Answers> Session<A> {
         }
     }
 
-    /// The input has ended: answers what stands behind the last line feed. Where memory for that is refused nothing has changed.
+    /// The input has ended: answers what stands after the last line feed. If memory for that is refused nothing has changed.
     pub fn end(&mut self) -> Result<(), AllocError>
         requires open { self.old.machine.phase ≡ Phase.Open }
         requires looked { left_of self.old.machine.block ≡ [] }
@@ -121,7 +122,7 @@ impl<A: Answers> Session<A> {
         self.machine.waiting.note_sent(count);
     }
 
-    /// Gives back the memory of its block where all of it is looked at, and of its answers where none waits. What is left is the line that has begun.
+    /// Gives back the memory of its block if all of it is looked at, and of its answers if none waits. What is left is the line that has begun.
     pub fn park(&mut self, alloc: Global)
         ensures left { left_of self.new.machine.block ≡ left_of self.old.machine.block }
         ensures waiting { unsent self.new.machine.waiting ≡ unsent self.old.machine.waiting }

@@ -91,7 +91,7 @@ impl Waiting {
         write_reply(reply, store, &mut self.bytes)
     }
 
-    /// Gives back its memory where nothing waits.
+    /// Gives back its memory if nothing waits.
     pub(crate) fn park(&mut self, alloc: Global)
         ensures unsent { unsent self.new ≡ unsent self.old }
         ensures bytes { (self.new.bytes.items ≡ []) ⊎ (self.new.bytes.items ≡ self.old.bytes.items) }

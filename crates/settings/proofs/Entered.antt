@@ -139,7 +139,7 @@ module _ (command : Text) (options : List Rule) where
       let turn = first_none (turn_fault whole.top (names_of whole) w x) (walk_fault whole.top (names_of whole) (walked top_rules (names_of whole) w x) xs) walks in
       some_kind kind.UnknownArgument (kind.InvalidSubcommand ∷ []) (subst (λ (v : Walk). turn_fault whole.top (names_of whole) v x ≡ []) is turn)
 
-  -- the words behind the command, with the uses in them
+  -- the words after the command, with the uses in them
   record PastName (words : List Text) : Type 0 where
     rest : List Text
     words_are : words ≡ command ∷ rest

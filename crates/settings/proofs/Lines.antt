@@ -172,7 +172,7 @@ no_short_flag : (v : Text) → starts_with_minus v ≡ false → short_of v ≡ 
 no_short_flag [] e = refl
 no_short_flag (x ∷ xs) e = ap (λ (c : Bool). option_and_then short_of_rest (cond c (Some xs) None)) e
 
--- what a word is that waits behind an option, by what its own tests say
+-- what a word is that waits after an option, by what its own tests say
 abbrev waiting_word : Bool → Text → List Row → Bool → Option (Text × Option Text) → Held × Step
 waiting_word b v rows d o = cond d (holding rows (pending_for (named b)), trailing 1) (long_or_other rules (option (name_of b)) v o (holding rows (pending_for (named b))))
 
@@ -241,7 +241,7 @@ first_use false v false rest p s =
     goes_far start (at_word [] (named false) 1 false) (after_one false v false) (long_word (codes "shards") ∷ v ∷ rest) (v ∷ rest) rest
     (goes start (at_word [] (named false) 1 false) (long_word (codes "shards")) (v ∷ rest) refl refl) (value_goes false v [] rest s)
 
--- the option of the other name, behind the first
+-- the option of the other name, after the first
 joined_second : (b : Bool) (v : Text) (j : Bool) (w : Text) (rest : List Text) → value_passes (rule_for b) v ≡ true → value_passes (rule_for (not b)) w ≡ true
     → GoesOn (after_one b v j) (after_two b v j w true) (joined_word (name_of (not b)) w ∷ rest) rest
 unfolding walked

@@ -1,4 +1,4 @@
--- The words after `sim`, where they have no fault, are those of uses that pass, and `--` may end them.
+-- The words after `sim`, if they have no fault, are those of uses that pass, and `--` may end them.
 use Rattle.std.proofs.Common.{◌≡◌, ◌∙◌, ◌||◌, ◌++◌, ◌∷◌, [], ℕ, Bool, List, Option, Some, None, true, false, cond, refl, sym, ap, ap₂, subst, zero, suc, length, drop, codes, append-nil, append_assoc}
 use Rattle.std.specs.Prelude.{◌==◌, encode_utf8, fold, slice_get}
 use Rattle.std.specs.Option.{option_map_or}

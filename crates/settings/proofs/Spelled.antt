@@ -16,7 +16,7 @@ option_text name (Some value) = joined_word name value
 abbrev is_equals : ℕ → Bool
 is_equals x = x == 61
 
--- the text up to `=`, `=` and the rest, or all of it where it has none
+-- the text up to `=`, `=` and the rest, or all of it if it has none
 abbrev mended : Text → Text
 mended t = cond (has_byte 61 t) (before_first is_equals t ++ 61 ∷ after_first is_equals t) (before_first is_equals t)
 

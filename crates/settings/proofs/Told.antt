@@ -1,4 +1,4 @@
--- What the words behind a command's name give its options, in the rows of a parse.
+-- What the words after a command's name give its options, in the rows of a parse.
 use Rattle.std.proofs.Common.{◌≡◌, ◌∙◌, ◌||◌, ◌++◌, ◌∷◌, [], Bool, List, Option, Some, None, true, false, cond, refl, sym, ap, subst}
 use Rattle.std.specs.Prelude.{IfSome, find, fold, option_and_then, option_map, slice_get, unwrap_or}
 use Rattle.std.specs.Str.{bytes_eq}

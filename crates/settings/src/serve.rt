@@ -122,7 +122,7 @@ pub struct ServeSettings {
     pub workers: u8,
     /// How many places before the latest one can still be read exactly and watched.
     pub window: u64,
-    /// About how many MiB of memory the writes of these places may take; if they take more, the horizon stays less behind.
+    /// About how many MiB of memory the writes of these places may take; if they take more, the horizon lags by less.
     pub window_mib: u64,
     /// How many MiB of memory answers may take while they are made; each worker has its share.
     pub answer_mib: u64,

@@ -63,7 +63,7 @@ rise_of n [] rises = tt
 rise_of n (v ∷ []) rises = tt
 rise_of n (v ∷ u ∷ vs) rises = (rises.1.0, rise_of v.place (u ∷ vs) rises.1)
 
--- ---- the shard behind it
+-- ---- the shard after it
 
 module _ {D : Type 0} (state : D → State) (honest : D → Type 0) (j k : View D) (me : Identity) (m : ShardState) (ids : List WriteId) (settled : ℕ) (kept : IsKept state honest j me m ids settled) where
   -- the generation, as it is over honest devices
@@ -129,7 +129,7 @@ module _ {D : Type 0} (state : D → State) (honest : D → Type 0) (j k : View 
           each = λ x y in_x in_y. ⊎_elim (λ old. inl old) (λ new. inr (_, new, point_here up)) (l.each x y in_x in_y);
         })
 
-    -- and behind it
+    -- and after it
     pub point_checked : (v : ShardView D) → view_of j me ≡ v → (honest j.a → honest k.a) → (honest j.b → honest k.b) → (honest k.a → honest j.a) → (honest k.b → honest j.b)
         → k.is_down ≡ false → k.staged ≡ [] → (honest j.a → honest j.b → generation_of j.durable < greatest_number)
         → (honest j.a → honest j.b → (k.durable ≡ checkpoint_of (generation_of j.durable + 1) (told_by me m)) × HasRecords (state k.a) (state k.b) k.durable)

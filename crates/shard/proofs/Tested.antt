@@ -21,7 +21,7 @@ use Rattle.records.specs.Replays.{AskOfLog, AsksOfLog, Identity, MayPrepare, Sha
 use Rattle.decisions.specs.Values.{IsIntent}
 use Rattle.shard.specs.Shards.{AreFree}
 
--- where none passes, all fail
+-- if none passes, all fail
 pub none_passes : {X : Type 0} (p : X → Bool) (xs : List X) → list_any p xs ≡ false → All (λ x. p x ≡ false) xs
 none_passes p [] no_x = All-nil (λ x. p x ≡ false)
 none_passes p (x ∷ xs) no_x =
@@ -120,7 +120,7 @@ module _ (shards s : ℕ) (w : Entry) (intent : IsIntent w) where
     wants = fit (part shards s w).conditions places_of;
   }
 
--- and may come next where it is free
+-- and may come next if it is free
 pub part_may_come : (me : Identity) (m : ShardState) (w : Entry) → 1 ≤ m.epoch → IsIntent w → AreFree m (part me.shards me.node w) → MayPrepare me m (part me.shards me.node w)
 unfolding part
 part_may_come me m w opened intent free = record {
@@ -153,7 +153,7 @@ both_empty (x ∷ xs) ys none is = ⊎_elim
     (λ (no : none ≡ false). ap not no ∙ sym (ap (λ b. not b || not (length ys == 0)) (not_empty x xs)))
     (cases_Bool none)
 
--- a shard takes part where its part is not empty
+-- a shard takes part if its part is not empty
 pub taken_part : (shards s : ℕ) (w : Entry) (none : Bool) → IsTrue none ↔ (((part shards s w).changes ≡ []) × ((part shards s w).conditions ≡ [])) → not none ≡ takes_part shards s w
 unfolding takes_part
 taken_part shards s w none is = both_empty (part shards s w).changes (part shards s w).conditions none is

@@ -27,7 +27,7 @@ pub record PreparesAt {D : Type 0} (state : D → State) (honest : D → Type 0)
   pub id : t.id ≡ w.id
   pub epoch : t.epoch ≡ (memory old).epoch
 
--- Its part of a write is not prepared, each refusal where its cause is the first.
+-- Its part of a write is not prepared, each refusal if its cause is the first.
 pub record PrepareRefused {D : Type 0} (old : ShardView D) (w : Entry) (e : Refusal) : Type 0 where
   pub collected : e ≡ Collected → AskBelow (memory old).horizon (own_part old w).conditions
   pub busy : e ≡ Busy → IsBusy (memory old) (own_part old w)
@@ -47,7 +47,7 @@ pub record VotesLater {D : Type 0} (v : ShardView D) (t : TicketValue) : Type 0 
   pub here : is_some (find_in_doubt t.id (memory v).in_doubt) ≡ true
   pub staged : (w : Entry) × (w.id ≡ t.id) × Contains v.staged (Prepare w)
 
--- the batch has decisions that the shard has not learned, right behind those that it has
+-- the batch has decisions that the shard has not learned, right after those that it has
 pub record GoesOn {D : Type 0} (old : ShardView D) (b : BatchValue) : Type 0 where
   pub from : b.from ≤ (memory old).learned
   pub to : (memory old).learned < b.from + length b.writes
@@ -66,7 +66,7 @@ pub record LearnRefused {D : Type 0} (old : ShardView D) (b : BatchValue) (e : R
   pub damaged : GoesOn old b → e ≡ Damaged ↔ (AreLearnable old.me (memory old) (unlearned (memory old) b.from b.writes) → ⊥)
   pub full : e ≡ Full → HasNoRoom old.staged (learning old.me (memory old) b.from b.writes)
 
--- It drops a write that was aborted, where it has it in doubt and has room to say so.
+-- It drops a write that was aborted, if it has it in doubt and has room to say so.
 pub record DropsAt {D : Type 0} (state : D → State) (honest : D → Type 0) (old : ShardView D) (id : WriteId) (new : ShardView D) : Type 0 where
   pub dropped : is_some (find_in_doubt id (memory old).in_doubt) ≡ true → (HasNoRoom old.staged (Dropped id) → ⊥) → Stages old (Dropped id) new × IsUp state honest new
   pub not_here : find_in_doubt id (memory old).in_doubt ≡ None → new ≡ old

@@ -1,4 +1,4 @@
--- A checkpoint of a shard: what it has, and what the shard is behind it.
+-- A checkpoint of a shard: what it has, and what the shard is after it.
 use Rattle.std.specs.Prelude.{◌≡◌, ◌⊎◌, ◌+◌, ℕ, List, [], ◌∷◌, ◌++◌, Some, map}
 use Rattle.std.specs.List.Sorted.{IsSorted}
 use Rattle.tuples.specs.declared.version.Version.{Version}

@@ -32,7 +32,7 @@ pub record IsBacked {D : Type 0} (state : D → State) (journal : View D) (rs : 
   pub rest : HasRecords (state journal.a) (state journal.b) journal.durable
   pub whole : rs ≡ journal.durable ++ journal.staged
 
--- the memory is alike to the replay of records of this shard, those of the journal where that is up; beside it the ids whose prepares are staged, and the
+-- the memory is alike to the replay of records of this shard, those of the journal if that is up; beside it the ids whose prepares are staged, and the
 -- place that the durable records have learned
 pub record IsKept {D : Type 0} (state : D → State) (honest : D → Type 0) (journal : View D) (me : Identity) (memory : ShardState) (unflushed : List WriteId) (settled : ℕ) : Type 0 where
   pub rs : List Record

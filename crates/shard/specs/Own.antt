@@ -12,7 +12,7 @@ is_below h (NotAfter place) = nat_lt place h
 is_below h Exists = false
 is_below h Absent = false
 
--- the first so many of these writes are in doubt with exactly their parts, where the shard has one
+-- the first so many of these writes are in doubt with exactly their parts, if the shard has one
 abbrev pub AreHereTo : ℕ → ℕ → ℕ → List Entry → List Entry → Type 0
 AreHereTo shards s n ws writes = (j : ℕ) (w : Entry) → j < n → slice_get writes j ≡ Some w → takes_part shards s w ≡ true → find_in_doubt w.id ws ≡ Some (part shards s w)
 

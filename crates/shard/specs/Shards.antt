@@ -132,7 +132,7 @@ placed_ids_from shards s place (w ∷ log) = if takes_part shards s w then recor
 abbrev pub learning : Identity → ShardState → ℕ → List Entry → Record
 learning me s from writes = Learned (from + length writes) (placed_ids_from me.shards me.node (s.learned + 1) (unlearned s from writes))
 
--- each of these writes is in doubt at the shard with exactly its part, where it has one
+-- each of these writes is in doubt at the shard with exactly its part, if it has one
 abbrev pub ArePreparedHere : Identity → ShardState → List Entry → Type 0
 ArePreparedHere me s writes = (j : ℕ) (w : Entry) → slice_get writes j ≡ Some w → takes_part me.shards me.node w ≡ true
     → find_in_doubt w.id s.in_doubt ≡ Some (part me.shards me.node w)

@@ -25,7 +25,7 @@ fn stage_horizon<D: Device>(journal: &mut Journal<D>, place: u64) -> Result<(), 
 }
 
 impl<D: Device> Shard<D> {
-    /// Stages the durable horizon of the coordinator, and forgets the versions under it. Where that horizon is above what the shard has
+    /// Stages the durable horizon of the coordinator, and forgets the versions under it. If that horizon is above what the shard has
     /// learned, or not above its own, nothing changes. Nothing has changed after a refusal: `Down`, `Full`.
     pub fn collect(&mut self, heads: &Heads) -> Result<(), Refusal>
         ensures ok { IsUp D.state D.honest self.old → (memory_of self.old).horizon < heads.now.horizon → heads.now.horizon ≤ (memory_of self.old).learned

@@ -34,7 +34,7 @@ fn stage_dropped<D: Device>(journal: &mut Journal<D>, id: WriteId) -> Result<(),
 }
 
 impl<D: Device> Shard<D> {
-    /// Stages that the write was dropped, and holds it no longer; what is handed in is spent. Where the write is not in doubt here, or
+    /// Stages that the write was dropped, and holds it no longer; what is handed in is spent. If the write is not in doubt here, or
     /// has no room in the batch, nothing changes: what is in doubt waits for a later verdict. It takes no memory. `Down`, and nothing
     /// has changed.
     pub fn drop_write(&mut self, verdict: &Verdict, held: Option<Held>) -> Result<(), Refusal>

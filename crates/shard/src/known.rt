@@ -37,7 +37,7 @@ impl<'a> Model for Known<'a> {
 }
 
 impl<'a> Known<'a> {
-    /// What the memory has, behind these records.
+    /// What the memory has, after these records.
     pub fn new(heads: &'a [Record], memory: &'a Memory) -> Known<'a>
         requires { AreRecords heads.now }
         ensures all { result ≡ heads.now ++ (map row_of memory.now.rows ++ map prepare_of memory.now.in_doubt) }

@@ -45,7 +45,7 @@ fn names_id(writes: &[Entry], id: WriteId) -> bool
     writes.iter().any(|write| write.id == id)
 }
 
-// Whether no two of the writes have one id. Where memory for the set of their ids is refused, each is compared with those before it.
+// Whether no two of the writes have one id. If memory for the set of their ids is refused, each is compared with those before it.
 fn are_new_ids(alloc: Global, writes: &[Entry]) -> bool
     ensures { IsTrue result ↔ AreNewIds writes.now }
 {
@@ -79,7 +79,7 @@ fn are_new_by_pairs(writes: &[Entry]) -> bool
     true
 }
 
-// Whether each of the writes is in doubt with exactly the shard's part, where it has one.
+// Whether each of the writes is in doubt with exactly the shard's part, if it has one.
 fn are_prepared(memory: &Memory, writes: &[Entry], me: Identity) -> bool
     ensures { IsTrue result ↔ ArePreparedHere me memory.now writes.now }
 {
@@ -91,7 +91,7 @@ fn are_prepared(memory: &Memory, writes: &[Entry], me: Identity) -> bool
     true
 }
 
-// The writes of a batch behind a place of it.
+// The writes of a batch after a place of it.
 fn behind(batch: &Batch, place: u64) -> &[Entry]
     requires from { batch.now.from ≤ place }
     requires to { place ≤ batch.now.from + length batch.now.writes }
@@ -188,10 +188,10 @@ impl<D: Device> Shard<D> {
         takes_part(intent.entry(), self.me)
     }
 
-    /// Applies the decisions of a batch above the place that it has learned. `true`, and nothing changed, where it has learned them all;
-    /// `false`, and nothing changed, where the batch begins above that place.
+    /// Applies the decisions of a batch above the place that it has learned. `true`, and nothing changed, if it has learned them all;
+    /// `false`, and nothing changed, if the batch begins above that place.
     ///
-    /// Nothing has changed after a refusal. `Down`; `Damaged` where a decision is not in doubt with exactly the shard's part, or two have one
+    /// Nothing has changed after a refusal. `Down`; `Damaged` if a decision is not in doubt with exactly the shard's part, or two have one
     /// id: the log that was told and this shard's records are not of one store. Only after that `NoMemory` and `Full`.
     pub fn learn(&mut self, alloc: Global, batch: &Batch) -> Result<bool, Refusal>
         ensures known { IsUp D.state D.honest self.old → batch.now.from + length batch.now.writes ≤ (memory_of self.old).learned → IfOk result (λ b. (b ≡ true) × (self.new ≡ self.old)) × (IsErr result → ⊥) }
@@ -201,7 +201,7 @@ impl<D: Device> Shard<D> {
         ensures learnable { IsUp D.state D.honest self.old → batch.now.from ≤ (memory_of self.old).learned → (memory_of self.old).learned < batch.now.from + length batch.now.writes
             → OnOk result (AreLearnable self.old.me (memory_of self.old) (unlearned (memory_of self.old) batch.now.from batch.now.writes)) }
 
-        // Damaged exactly where the decisions are not the writes that were prepared.
+        // Damaged exactly if the decisions are not the writes that were prepared.
         ensures damaged { IsUp D.state D.honest self.old → batch.now.from ≤ (memory_of self.old).learned → (memory_of self.old).learned < batch.now.from + length batch.now.writes
             → IsErrOf result Refusal.Damaged ↔ (AreLearnable self.old.me (memory_of self.old) (unlearned (memory_of self.old) batch.now.from batch.now.writes) → ⊥) }
         ensures full { IsUp D.state D.honest self.old → IsErrOf result Refusal.Full → HasNoRoom self.old.staged (learning self.old.me (memory_of self.old) batch.now.from batch.now.writes) }

@@ -62,7 +62,7 @@ impl<D: Device> Shard<D> {
 }
 
 impl<D: Device> Shard<Away<D>> {
-    /// The devices come back, and the room for the next flight. Where the flight's flush went well, what flew is durable: its prepares are
+    /// The devices come back, and the room for the next flight. If the flight's flush went well, what flew is durable: its prepares are
     /// voted for, and what it has learned is settled. Else the shard is down, and has to be opened again.
     pub fn land(self, flown: Journal<D>, flying: Flying) -> (Shard<D>, BatchRoom)
         requires sent { Flies self.staged flying.sent }

@@ -52,24 +52,24 @@ impl NodeKind for ShardKind {
 impl<D: Device> Shard<D> {
     /// Opens the shard with this identity: replays its journal, and makes one `Epoch` record more durable.
     ///
-    /// Each refusal gives the devices back: `Down` where a call of a device failed, or the current bank would grow past 2^40 bytes; `NoMemory`;
-    /// `Full` after the last epoch; `Damaged` where the devices have no records of this shard of this store.
+    /// Each refusal gives the devices back: `Down` if a call of a device failed, or the current bank would grow past 2^40 bytes; `NoMemory`;
+    /// `Full` after the last epoch; `Damaged` if the devices have no records of this shard of this store.
     pub fn open(alloc: Global, a: D, b: D, me: Identity) -> Result<Shard<D>, Refused<D>>
         requires node { me.node < me.shards }
         ensures honest { MatchResult result (λ s. (D.honest a ↔ D.honest s.a) × (D.honest b ↔ D.honest s.b)) (λ e. (D.honest a ↔ D.honest e.a) × (D.honest b ↔ D.honest e.b)) }
         ensures ok { D.honest a → D.honest b → IfOk result (λ s. IsOpenedShard D.state D.honest a b me s) }
         ensures fresh { IfOk result (λ s. (s.staged ≡ []) × (s.is_down ≡ false) × (s.me ≡ me)) }
 
-        // Damaged exactly where there are no records of this shard.
+        // Damaged exactly if there are no records of this shard.
         ensures damaged { D.honest a → D.honest b → IfErr result (λ e. e.refusal ≡ Refusal.Damaged → (rs : List AnyRecord) → found (D.state a).seen (D.state b).seen ≡ Some rs
             → IsShardImage me rs → ⊥) }
 
-        // Full only where the records are this shard's, after its last epoch.
+        // Full only if the records are this shard's, after its last epoch.
         ensures full { D.honest a → D.honest b → IfErr result (λ e. e.refusal ≡ Refusal.Full → (rs : List AnyRecord) × (found (D.state a).seen (D.state b).seen ≡ Some rs)
             × IsShardImage me rs × ((shard_state rs).epoch ≡ greatest_number)) }
         ensures err { IfErr result (λ e. IsOneOf e.refusal (Refusal.Down ∷ Refusal.NoMemory ∷ Refusal.Full ∷ Refusal.Damaged ∷ [])) }
 
-        // Down only where a device failed in this call, or the current bank has no room.
+        // Down only if a device failed in this call, or the current bank has no room.
         ensures down { IfErr result (λ e. e.refusal ≡ Refusal.Down → HasFailed (D.state a) (D.state e.a) ⊎ (HasFailed (D.state b) (D.state e.b) ⊎ LacksRoomToOpen D.state D.honest a b me)) }
         ensures stopped { ((D.state a).stopped ≡ true) ⊎ ((D.state b).stopped ≡ true) → IsErr result }
         ensures counts_a { MatchResult result (λ s. (D.state a).failures ≤ (D.state s.a).failures) (λ e. (D.state a).failures ≤ (D.state e.a).failures) }

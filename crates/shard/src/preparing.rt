@@ -123,8 +123,8 @@ fn prepare<D: Device>(
 
 impl<D: Device> Shard<D> {
     /// Stages the prepare of this shard's part of a write. Nothing has changed after a refusal; each is tested for the whole part before
-    /// the next: `Down`, `Collected` where a condition names a place below the horizon, `Busy` where a write in doubt has the id or holds
-    /// a tuple of the part, `Precondition` where a condition is broken, `Full`, `NoMemory`.
+    /// the next: `Down`, `Collected` if a condition names a place below the horizon, `Busy` if a write in doubt has the id or holds
+    /// a tuple of the part, `Precondition` if a condition is broken, `Full`, `NoMemory`.
     pub fn stage_prepare(&mut self, alloc: Global, intent: &Intent) -> Result<Ticket, Refusal>
         requires part { takes_part self.old.me.shards self.old.me.node intent.now.write ≡ true }
         ensures ok { IsUp D.state D.honest self.old → IfOk result (λ t. Stages self.old (prepare_record (own_part_of self.old intent.now.write)) self.new
@@ -134,7 +134,7 @@ impl<D: Device> Shard<D> {
         ensures free { IsUp D.state D.honest self.old → OnOk result (AreFree (memory_of self.old) (own_part_of self.old intent.now.write)) }
         ensures conditions { IsUp D.state D.honest self.old → OnOk result (HoldHere (memory_of self.old) (own_part_of self.old intent.now.write).conditions) }
 
-        // Each refusal exactly where its cause is the first.
+        // Each refusal exactly if its cause is the first.
         ensures down { IsErrOf result Refusal.Down ↔ (self.old.is_down ≡ true) }
         ensures collected { IsUp D.state D.honest self.old → IsErrOf result Refusal.Collected ↔ AskBelow (memory_of self.old).horizon (own_part_of self.old intent.now.write).conditions }
         ensures busy { IsUp D.state D.honest self.old → IsErrOf result Refusal.Busy ↔ IsBusy (memory_of self.old) (own_part_of self.old intent.now.write) }

@@ -63,8 +63,8 @@ impl<D: Device> Shard<D> {
         }
     }
 
-    /// The tuples of this shard that are there at a place and meet the tupleset, ascending; `Behind` where the place is above what it
-    /// has learned. `Collected` where the place is below its horizon, `Down`, `NoMemory`, which is also told where the budget has no
+    /// The tuples of this shard that are there at a place and meet the tupleset, ascending; `Behind` if the place is above what it
+    /// has learned. `Collected` if the place is below its horizon, `Down`, `NoMemory`, which is also told if the budget has no
     /// bytes for a tuple.
     pub fn read(
         &self,

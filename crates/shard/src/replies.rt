@@ -9,7 +9,7 @@ pub enum VoteReply {
     Yes(Vote),
     /// The prepare is staged and not flushed: flush, and ask again.
     Later(Ticket),
-    /// `Aborted` where the write is not in doubt at the shard, `Down`; the ticket is spent.
+    /// `Aborted` if the write is not in doubt at the shard, `Down`; the ticket is spent.
     No(Refusal),
 }
 

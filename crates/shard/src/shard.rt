@@ -83,7 +83,7 @@ impl<D: Device> Shard<D> {
         ensures me { self.new.me ≡ self.old.me }
         ensures down { self.old.is_down ≡ true → IsErr result }
 
-        // Where it is down, or nothing is staged, no call is made.
+        // If it is down, or nothing is staged, no call is made.
         ensures quiet { ((self.old.is_down ≡ true) ⊎ (self.old.staged ≡ [])) → self.new ≡ self.old }
         ensures cause { OnErr result ((self.old.is_down ≡ true) ⊎ HasCause D.state D.honest (journal_of self.old) (journal_of self.new)) }
         ensures err { IfErr result (λ e. (e ≡ Refusal.Down) × (self.new.is_down ≡ true)) }
@@ -102,7 +102,7 @@ impl<D: Device> Shard<D> {
         }
     }
 
-    /// What became of a prepare: `Yes` only where it lies in whatever a stop leaves.
+    /// What became of a prepare: `Yes` only if it lies in whatever a stop leaves.
     pub fn vote(&self, ticket: Ticket) -> VoteReply
         ensures own { (v : _) → result ≡ Yes v → (v.id ≡ ticket.id) × (v.shard ≡ self.now.me.node) }
         ensures yes { (v : _) → IsUp D.state D.honest self.now → result ≡ Yes v

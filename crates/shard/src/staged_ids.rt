@@ -56,7 +56,7 @@ impl StagedIds {
         self.ids.contains(&id)
     }
 
-    /// The id is the last of them from here on. Where memory is refused, nothing has changed.
+    /// The id is the last of them from here on. If memory is refused, nothing has changed.
     pub fn push(&mut self, id: WriteId) -> Result<(), AllocError>
         ensures ok { OnOk result (self.new ≡ self.old ++ id ∷ []) }
         ensures err { OnErr result (self.new ≡ self.old) }

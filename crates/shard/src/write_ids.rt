@@ -41,7 +41,7 @@ impl WriteIds {
         self.ids.contains(&id)
     }
 
-    /// The id is one of them from here on. Where memory is refused, nothing has changed.
+    /// The id is one of them from here on. If memory is refused, nothing has changed.
     pub fn put(&mut self, id: WriteId) -> Result<(), AllocError>
         ensures ok { OnOk result ((j : AnyId) → has_id j self.new ≡ (has_id j self.old || same_id id j)) }
         ensures err { OnErr result (self.new ≡ self.old) }

@@ -20,7 +20,7 @@ use Rattle.short_forms.proofs.Verbs.{write_only}
 lacks_char : (c : ℕ) (bs : List ℕ) → NoCharPasses (λ d. eqb d c) bs → c < 128 → Lacks c bs
 lacks_char c bs none small = lacks_everywhere c bs (All-from_get_or (λ b. b ≢ c) bs 0 (λ k lt. NoCharPasses-char c bs k none small lt))
 
--- what stands before and behind the last such byte
+-- what stands before and after the last such byte
 pub cut_at_last : (c : ℕ) (bs : List ℕ) (r : Option (Bor (List ℕ) × Bor (List ℕ))) → MatchOption r (RFindsChar c bs None) (λ x. SplitsAroundMatch (RFindsChar c) bs x.0.now x.1.now) → c < 128
     → MatchOption r (Lacks c bs) (λ x. (bs ≡ x.0.now ++ c ∷ x.1.now) × Lacks c x.1.now)
 cut_at_last c bs None h small = lacks_char c bs h small
@@ -58,7 +58,7 @@ no_condition_at (w ∷ words) (suc i) d h none (c ∷ cs) a = no_condition_at wo
 
 -- ---- the parts of a write
 
--- changes end where a word is none
+-- changes end if a word is none
 pub changes_once : (cs ds : List Changed) (rest more : List (List ℕ)) → map changed_word cs ++ rest ≡ map changed_word ds ++ more → BeginsNoChange rest → BeginsNoChange more → rest ≡ more
 changes_once [] [] rest more e r m = e
 changes_once [] (d ∷ ds) rest more e r m = absurd (r d (map changed_word ds ++ more) e)
@@ -79,7 +79,7 @@ no_changes words none = write_only words (no_first words none)
     no_first words none [] asks e some all = omega (arith, some)
     no_first words none (c ∷ cs) asks e some all = none c (map changed_word cs ++ if_words (map asked_word asks)) e
 
--- and so are changes behind which no conditions stand
+-- and so are changes after which no conditions stand
 pub no_conditions : (words rest : List (List ℕ)) (cs : List Changed) → words ≡ map changed_word cs ++ rest → BeginsNoChange rest → ((asks : List Asked) → All IsAsked asks → rest ≡ if_words (map asked_word asks) → ⊥) → SpellsNone (codes "write" ∷ words)
 no_conditions words rest cs whole ends none = write_only words (λ ds asks e some all. none asks all (changes_once cs ds rest (if_words (map asked_word asks)) (sym whole ∙ e) ends (if_is_no_change asks)))
 

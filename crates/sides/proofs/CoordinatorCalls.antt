@@ -1,14 +1,12 @@
 -- The calls of the coordinator under its lock leave it tied.
-use Rattle.std.proofs.Common.{◌≡◌, ◌≤◌, ◌<◌, ⊎_elim, ℕ, true≢false, List, [], ◌∷◌, ◌++◌, length, Result, Option, Some, Ok, Err, refl, sym, ◌∙◌, subst, ap}
-use Rattle.std.specs.Global.{Vec}
+use Rattle.std.proofs.Common.{◌≡◌, ◌≤◌, ◌<◌, ⊎_elim, ℕ, false, true≢false, List, [], ◌∷◌, ◌++◌, length, Result, Option, Some, Ok, Err, refl, sym, ◌∙◌, subst, ap}
 use Rattle.std.proofs.lemmas.List.{append-nil}
 use Rattle.std.proofs.lemmas.Bool.{false_from_ne_true}
-use Rattle.sides.proofs.Words.{Abort, AbortAnswers, Answered, AnsweredThere, Attempt, attempt, Batch, Begin, BeginAnswers, beginnings_stay_tied, Checkpoint, CheckpointAnswers, Coordinator, coordinator, CoordinatorAnswers, CoordinatorCall, CoordinatorMayJoin, CoordinatorReply, CoordinatorView, Decide, DecideAnswers, DecidedValue, Entry, Flush, FlushAnswers, from_coordinator, Heads, Inquire, IntentValue, IsOpenedTied, IsTied, IsTiedThere, IsTiedUp, landings_stay_tied, left, MayJoin, NodeView, NotRaised, Outcome, Raise, RaiseAnswers, Refusal, refused, Refuses, Reply, SettledValue, State, tied_up_is_tied, tried_by, VerdictValue, VoteValue, WriteValue}
+use Rattle.sides.proofs.Words.{Abort, AbortAnswers, Answered, AnsweredThere, Attempt, attempt, Batch, Begin, BeginAnswers, beginnings_stay_tied, Checkpoint, CheckpointAnswers, Coordinator, coordinator, CoordinatorAnswers, CoordinatorCall, CoordinatorMayJoin, CoordinatorReply, CoordinatorView, Decide, DecideAnswers, DecidedValue, Entry, Flush, from_coordinator, Heads, Inquire, IntentValue, IsOpenedTied, IsTied, IsTiedThere, IsTiedUp, landings_stay_tied, left, MayJoin, NodeView, NotRaised, Outcome, Raise, RaiseAnswers, Refusal, refused, Refuses, Reply, SettledValue, State, tied_up_is_tied, tried_by, VerdictValue, VoteValue, WriteValue}
 use Rattle.calls.specs.declared.reply.CoordinatorReply.TheVariants as told
 use Rattle.ties.proofs.Deciding.{aborts_stay_tied, decisions_stay_tied, raises_stay_tied}
-use Rattle.ties.proofs.Landing.{flushes_stay_tied}
-use Rattle.ties.proofs.Opening.{failed_flushes_stay_tied}
 use Rattle.ties.proofs.Points.{checkpoints_stay_tied, failed_checkpoints_stay_tied}
+use Rattle.sides.specs.CoordinatorSides.{is_log_flush, write_of}
 use Rattle.sides.proofs.ShardCalls.{up_or_down}
 
 module _ {D : Type 0} (state : D → State) (honest : D → Type 0) (store shards : ℕ) where
@@ -57,28 +55,6 @@ module _ {D : Type 0} (state : D → State) (honest : D → Type 0) (store shard
           next.1,
         )
 
-    -- what was flushed may join the list
-    pub flushed : (moment : D → ℕ) (left_since : D → ℕ → List ℕ → Type 0) → ((d : D) (t : ℕ) (c : List ℕ) → honest d → t ≤ moment d → left (state d) c → left_since d t c)
-        → (r : Result (Unit {0}) Refusal) → FlushAnswers state honest moment left_since old r new → CoordinatorMayJoin state honest store shards new seen low tried
-    flushed moment left_since counts_now (Ok done) a =
-        let up = tied.up a.up.0 in
-        let ok = a.ok up.running in
-        record {
-          up = λ is_up. flushes_stay_tied state honest old new seen low tried up ok.1 a.keeps ok.0;
-          down = λ down. absurd (true≢false (sym down ∙ a.up.1));
-          me = a.keeps.me ∙ tied.me;
-        }
-    flushed moment left_since counts_now (Err e) a = record {
-      up = λ up. absurd (true≢false (sym a.err.1 ∙ up));
-      down = λ down. ⊎_elim
-          (λ was_up.
-          let up = tied.up was_up in
-          (failed_flushes_stay_tied state honest moment left_since counts_now store shards old new seen low tried up tied.me a.keeps (a.still_honest.0.0 up.running.honest_a) (a.still_honest.1.0 up.running.honest_b) a.err.1 (a.any_moment up.running)).anywhere)
-          (λ was_down. (unchanged (a.down was_down).1).anywhere)
-          (up_or_down old.is_down);
-      me = a.keeps.me ∙ tied.me;
-    }
-
     -- one that is as it was may join as it is
     stays_joined : new ≡ old → CoordinatorMayJoin state honest store shards new seen low tried
     stays_joined same = subst (λ (v : CoordinatorView D). CoordinatorMayJoin state honest store shards v seen low tried) (sym same) (record {
@@ -114,132 +90,64 @@ module _ {D : Type 0} (state : D → State) (honest : D → Type 0) (store shard
         (λ was_down. stays_joined (a.down was_down).1)
         (up_or_down old.is_down)
 
--- a call that changes nothing
-abbrev pub IsQuietThere : CoordinatorCall → Type 0
-IsQuietThere Heads = Unit {0}
-IsQuietThere (Batch from to) = Unit {0}
-IsQuietThere (Outcome d) = Unit {0}
-IsQuietThere (Inquire id) = Unit {0}
-IsQuietThere call = ⊥
-
 -- Given also what a device tells of the moments of a call
-module _ {D : Type 0} (state : D → State) (honest : D → Type 0) (moment : D → ℕ) (left_since : D → ℕ → List ℕ → Type 0) (store shards : ℕ) where
-  abbrev KeepsTied : CoordinatorCall → List Entry → ℕ → List Attempt → Type 0
-  KeepsTied call seen low tried = (old new : CoordinatorView D) (reply : CoordinatorReply) → IsOpenedTied state honest store shards old seen low tried → CoordinatorAnswers state honest moment left_since old call reply new
-      → IsOpenedTied state honest store shards new seen low tried
+module _ {D : Type 0} (state : D → State) (honest : D → Type 0) (moment : D → ℕ) (left_since : D → ℕ → List ℕ → Type 0) (store shards : ℕ) (seen : List Entry) (low : ℕ) (tried : List Attempt) where
+  abbrev StaysTied : CoordinatorView D → List Attempt → Type 0
+  StaysTied v more = IsOpenedTied state honest store shards v seen low (tried ++ more)
 
-  node_stays : (call : CoordinatorCall) (seen : List Entry) (low : ℕ) (tried : List Attempt) → KeepsTied call seen low tried → (old : NodeView D) (reply : Reply) (new : NodeView D)
-      → IsTied state honest store shards old seen low tried → Answered state honest moment left_since old (Coordinator call) reply new → IsTied state honest store shards new seen low tried
-  node_stays call seen low tried keeps (coordinator old) (from_coordinator reply) (coordinator new) tied a = keeps old new reply tied a
-  node_stays call seen low tried keeps (refused e x y) reply new tied a = subst (λ (n : NodeView D). IsTied state honest store shards n seen low tried) (sym a.0) tied
-  node_stays call seen low tried keeps old reply new tied a = absurd a
+  none_more : (v : CoordinatorView D) → IsOpenedTied state honest store shards v seen low tried → StaysTied v []
+  none_more v tied = subst (λ (l : List Attempt). IsOpenedTied state honest store shards v seen low l) (sym (append-nil tried)) tied
 
-  -- what leaves the coordinator tied leaves what lies under the lock tied
-  abbrev StaysThere : CoordinatorCall → List Entry → ℕ → List Attempt → Type 0
-  StaysThere call seen low tried = (old new : Option (NodeView D)) (reply : Reply) → IsTiedThere state honest store shards old seen low tried → AnsweredThere state honest moment left_since old call reply new
-      → IsTiedThere state honest store shards new seen low tried
+  -- a decision that is told is one more that was once staged
+  coordinator_stays : (call : CoordinatorCall) → is_log_flush call ≡ false → (old new : CoordinatorView D) (reply : CoordinatorReply) → IsOpenedTied state honest store shards old seen low tried
+      → CoordinatorAnswers state honest moment left_since old call reply new → StaysTied new (tried_by (write_of call) (from_coordinator reply))
+  coordinator_stays (Begin write) calm old new (told.Begin r) tied a = none_more new (begun state honest store shards old new seen low tried tied write r a)
+  coordinator_stays Heads calm old new (told.Heads r) tied a = none_more new (unchanged state honest store shards old new seen low tried tied a.0)
+  coordinator_stays (Batch from to) calm old new (told.Batch r) tied a = none_more new (unchanged state honest store shards old new seen low tried tied a.0)
+  coordinator_stays (Decide intent votes) calm old new (told.Decide (Ok d)) tied a = (decided state honest store shards old new seen low tried tied intent votes.items d a).0
+  coordinator_stays (Decide intent votes) calm old new (told.Decide (Err e)) tied a = none_more new (unchanged state honest store shards old new seen low tried tied a.same)
+  coordinator_stays (Outcome d) calm old new (told.Outcome r) tied a = none_more new (unchanged state honest store shards old new seen low tried tied a.0)
+  coordinator_stays (Abort intent) calm old new (told.Abort r) tied a = none_more new (aborted state honest store shards old new seen low tried tied intent r a)
+  coordinator_stays (Inquire id) calm old new (told.Inquire r) tied a = none_more new (unchanged state honest store shards old new seen low tried tied a.0)
+  coordinator_stays (Raise place settled) calm old new (told.Raise r) tied a = none_more new (raised state honest store shards old new seen low tried tied place settled.items r a)
+  coordinator_stays Flush calm old new reply tied a = absurd (cc calm)
+  coordinator_stays Checkpoint calm old new reply tied a = absurd (cc calm)
+  coordinator_stays call calm old new reply tied a = absurd a
 
-  stays : (call : CoordinatorCall) (seen : List Entry) (low : ℕ) (tried : List Attempt) → KeepsTied call seen low tried → StaysThere call seen low tried
-  stays call seen low tried keeps (Some old) (Some new) reply tied a = node_stays call seen low tried keeps old reply new tied a
-  stays call seen low tried keeps old new reply tied a = absurd a
+  none_by_refused : (e : Refusal) (w : Entry) (call : CoordinatorCall) (reply : Reply) → Refuses e (Coordinator call) reply → tried_by w reply ≡ []
+  none_by_refused e w (Decide intent votes) (from_coordinator (told.Decide (Ok d))) r = absurd r
+  none_by_refused e w call (from_coordinator (told.Decide (Ok d))) r = absurd r
+  none_by_refused e w call reply r = refl
 
-  same_coordinator : (old new : CoordinatorView D) (call : CoordinatorCall) (reply : CoordinatorReply) → IsQuietThere call → CoordinatorAnswers state honest moment left_since old call reply new → new ≡ old
-  same_coordinator old new Heads (told.Heads r) quiet a = a.0
-  same_coordinator old new (Batch from to) (told.Batch r) quiet a = a.0
-  same_coordinator old new (Outcome d) (told.Outcome r) quiet a = a.0
-  same_coordinator old new (Inquire id) (told.Inquire r) quiet a = a.0
-  same_coordinator old new (Begin write) reply quiet a = absurd quiet
-  same_coordinator old new (Decide intent votes) reply quiet a = absurd quiet
-  same_coordinator old new (Abort intent) reply quiet a = absurd quiet
-  same_coordinator old new (Raise place settled) reply quiet a = absurd quiet
-  same_coordinator old new Flush reply quiet a = absurd quiet
-  same_coordinator old new Checkpoint reply quiet a = absurd quiet
-  same_coordinator old new call reply quiet a = absurd a
+  node_stays : (call : CoordinatorCall) → is_log_flush call ≡ false → (old : NodeView D) (reply : Reply) (new : NodeView D) → IsTied state honest store shards old seen low tried
+      → Answered state honest moment left_since old (Coordinator call) reply new → IsTied state honest store shards new seen low (tried ++ tried_by (write_of call) reply)
+  node_stays call calm (coordinator old) (from_coordinator reply) (coordinator new) tied a = coordinator_stays call calm old new reply tied a
+  node_stays call calm (refused e x y) reply new tied a =
+      let none : tried ++ tried_by (write_of call) reply ≡ tried = ap (λ (l : List Attempt). tried ++ l) (none_by_refused e (write_of call) call reply a.1) ∙ append-nil tried in
+      subst (λ (l : List Attempt). IsTied state honest store shards new seen low l) (sym none) (subst (λ (n : NodeView D). IsTied state honest store shards n seen low tried) (sym a.0) tied)
+  node_stays call calm old reply new tied a = absurd a
 
-  pub quiet_stays_there : (call : CoordinatorCall) (seen : List Entry) (low : ℕ) (tried : List Attempt) → IsQuietThere call → StaysThere call seen low tried
-  quiet_stays_there call seen low tried quiet =
-      stays call seen low tried (λ old new reply tied a. subst (λ (v : CoordinatorView D). IsOpenedTied state honest store shards v seen low tried) (sym (same_coordinator old new call reply quiet a)) tied)
-
-  keeps_begin : (write : WriteValue) (seen : List Entry) (low : ℕ) (tried : List Attempt) → KeepsTied (Begin write) seen low tried
-  keeps_begin write seen low tried old new (told.Begin r) tied a = begun state honest store shards old new seen low tried tied write r a
-  keeps_begin write seen low tried old new reply tied a = absurd a
-
-  pub begin_stays : (write : WriteValue) (seen : List Entry) (low : ℕ) (tried : List Attempt) → StaysThere (Begin write) seen low tried
-  begin_stays write seen low tried = stays (Begin write) seen low tried (keeps_begin write seen low tried)
-
-  keeps_abort : (intent : IntentValue) (seen : List Entry) (low : ℕ) (tried : List Attempt) → KeepsTied (Abort intent) seen low tried
-  keeps_abort intent seen low tried old new (told.Abort r) tied a = aborted state honest store shards old new seen low tried tied intent r a
-  keeps_abort intent seen low tried old new reply tied a = absurd a
-
-  pub abort_stays : (intent : IntentValue) (seen : List Entry) (low : ℕ) (tried : List Attempt) → StaysThere (Abort intent) seen low tried
-  abort_stays intent seen low tried = stays (Abort intent) seen low tried (keeps_abort intent seen low tried)
-
-  keeps_raise : (place : ℕ) (settled : _) (seen : List Entry) (low : ℕ) (tried : List Attempt) → KeepsTied (Raise place settled) seen low tried
-  keeps_raise place settled seen low tried old new (told.Raise r) tied a = raised state honest store shards old new seen low tried tied place settled.items r a
-  keeps_raise place settled seen low tried old new reply tied a = absurd a
-
-  pub raise_stays : (place : ℕ) (settled : _) (seen : List Entry) (low : ℕ) (tried : List Attempt) → StaysThere (Raise place settled) seen low tried
-  raise_stays place settled seen low tried = stays (Raise place settled) seen low tried (keeps_raise place settled seen low tried)
-
-  -- Given a write that is decided, with its votes
-  module _ (intent : IntentValue) (votes : Vec VoteValue) (seen : List Entry) (low : ℕ) (tried : List Attempt) where
-    coordinator_decided : (old new : CoordinatorView D) (reply : CoordinatorReply) → IsOpenedTied state honest store shards old seen low tried → CoordinatorAnswers state honest moment left_since old (Decide intent votes) reply new
-        → IsOpenedTied state honest store shards new seen low (tried ++ tried_by intent.write (from_coordinator reply))
-    coordinator_decided old new (told.Decide (Ok d)) tied a = (decided state honest store shards old new seen low tried tied intent votes.items d a).0
-    coordinator_decided old new (told.Decide (Err e)) tied a = subst (λ (l : List Attempt). IsOpenedTied state honest store shards new seen low l) (sym (append-nil tried)) (unchanged state honest store shards old new seen low tried tied a.same)
-    coordinator_decided old new reply tied a = absurd a
-
-    none_by_refused : (e : Refusal) (reply : Reply) → Refuses e (Coordinator (Decide intent votes)) reply → tried_by intent.write reply ≡ []
-    none_by_refused e (from_coordinator (told.Decide (Ok d))) r = absurd r
-    none_by_refused e (from_coordinator (told.Decide (Err back))) r = refl
-    none_by_refused e reply r = absurd r
-
-    node_decided : (old : NodeView D) (reply : Reply) (new : NodeView D) → IsTied state honest store shards old seen low tried → Answered state honest moment left_since old (Coordinator (Decide intent votes)) reply new
-        → IsTied state honest store shards new seen low (tried ++ tried_by intent.write reply)
-    node_decided (coordinator old) (from_coordinator reply) (coordinator new) tied a = coordinator_decided old new reply tied a
-    node_decided (refused e x y) reply new tied a =
-        let none : tried ++ tried_by intent.write reply ≡ tried = ap (λ (l : List Attempt). tried ++ l) (none_by_refused e reply a.1) ∙ append-nil tried in
-        subst (λ (l : List Attempt). IsTied state honest store shards new seen low l) (sym none) (subst (λ (n : NodeView D). IsTied state honest store shards n seen low tried) (sym a.0) tied)
-    node_decided old reply new tied a = absurd a
-
-    -- a decision that is told is one more that was once staged
-    pub decide_stays : (old new : Option (NodeView D)) (reply : Reply) → IsTiedThere state honest store shards old seen low tried → AnsweredThere state honest moment left_since old (Decide intent votes) reply new
-        → IsTiedThere state honest store shards new seen low (tried ++ tried_by intent.write reply)
-    decide_stays (Some old) (Some new) reply tied a = node_decided old reply new tied a
-    decide_stays old new reply tied a = absurd a
+  -- a call that needs no devices leaves what lies under the lock tied
+  pub log_call_stays : (call : CoordinatorCall) → is_log_flush call ≡ false → (old new : Option (NodeView D)) (reply : Reply) → IsTiedThere state honest store shards old seen low tried
+      → AnsweredThere state honest moment left_since old call reply new → IsTiedThere state honest store shards new seen low (tried ++ tried_by (write_of call) reply)
+  log_call_stays call calm (Some old) (Some new) reply tied a = node_stays call calm old reply new tied a
+  log_call_stays call calm old new reply tied a = absurd a
 
   -- Given that what a stop may leave now is among what it may leave since an earlier moment
   module _ (counts_now : (d : D) (t : ℕ) (c : List ℕ) → honest d → t ≤ moment d → left (state d) c → left_since d t c) where
-    coordinator_flushed : (old new : CoordinatorView D) (reply : CoordinatorReply) (seen : List Entry) (low : ℕ) (tried : List Attempt) → IsOpenedTied state honest store shards old seen low tried
-        → CoordinatorAnswers state honest moment left_since old Flush reply new → CoordinatorMayJoin state honest store shards new seen low tried
-    coordinator_flushed old new (told.Flush r) seen low tried tied a = flushed state honest store shards old new seen low tried tied moment left_since counts_now r a
-    coordinator_flushed old new reply seen low tried tied a = absurd a
-
-    coordinator_checkpointed : (old new : CoordinatorView D) (reply : CoordinatorReply) (seen : List Entry) (low : ℕ) (tried : List Attempt) → IsOpenedTied state honest store shards old seen low tried
+    coordinator_checkpointed : (old new : CoordinatorView D) (reply : CoordinatorReply) → IsOpenedTied state honest store shards old seen low tried
         → CoordinatorAnswers state honest moment left_since old Checkpoint reply new → CoordinatorMayJoin state honest store shards new seen low tried
-    coordinator_checkpointed old new (told.Checkpoint r) seen low tried tied a = checkpointed state honest store shards old new seen low tried tied moment left_since counts_now r a
-    coordinator_checkpointed old new reply seen low tried tied a = absurd a
+    coordinator_checkpointed old new (told.Checkpoint r) tied a = checkpointed state honest store shards old new seen low tried tied moment left_since counts_now r a
+    coordinator_checkpointed old new reply tied a = absurd a
 
-    node_checkpointed : (old : NodeView D) (reply : Reply) (new : NodeView D) (seen : List Entry) (low : ℕ) (tried : List Attempt) → IsTied state honest store shards old seen low tried
+    node_checkpointed : (old : NodeView D) (reply : Reply) (new : NodeView D) → IsTied state honest store shards old seen low tried
         → Answered state honest moment left_since old (Coordinator Checkpoint) reply new → MayJoin state honest store shards (Some new) seen low tried
-    node_checkpointed (coordinator old) (from_coordinator reply) (coordinator new) seen low tried tied a = coordinator_checkpointed old new reply seen low tried tied a
-    node_checkpointed (refused e x y) reply new seen low tried tied a = subst (λ (n : NodeView D). MayJoin state honest store shards (Some n) seen low tried) (sym a.0) tied
-    node_checkpointed old reply new seen low tried tied a = absurd a
+    node_checkpointed (coordinator old) (from_coordinator reply) (coordinator new) tied a = coordinator_checkpointed old new reply tied a
+    node_checkpointed (refused e x y) reply new tied a = subst (λ (n : NodeView D). MayJoin state honest store shards (Some n) seen low tried) (sym a.0) tied
+    node_checkpointed old reply new tied a = absurd a
 
     -- what was replaced by a checkpoint may join the list
-    pub checkpoint_may_join : (old new : Option (NodeView D)) (reply : Reply) (seen : List Entry) (low : ℕ) (tried : List Attempt) → IsTiedThere state honest store shards old seen low tried
+    pub checkpoint_may_join : (old new : Option (NodeView D)) (reply : Reply) → IsTiedThere state honest store shards old seen low tried
         → AnsweredThere state honest moment left_since old Checkpoint reply new → MayJoin state honest store shards new seen low tried
-    checkpoint_may_join (Some old) (Some new) reply seen low tried tied a = node_checkpointed old reply new seen low tried tied a
-    checkpoint_may_join old new reply seen low tried tied a = absurd a
-
-    node_flushed : (old : NodeView D) (reply : Reply) (new : NodeView D) (seen : List Entry) (low : ℕ) (tried : List Attempt) → IsTied state honest store shards old seen low tried
-        → Answered state honest moment left_since old (Coordinator Flush) reply new → MayJoin state honest store shards (Some new) seen low tried
-    node_flushed (coordinator old) (from_coordinator reply) (coordinator new) seen low tried tied a = coordinator_flushed old new reply seen low tried tied a
-    node_flushed (refused e x y) reply new seen low tried tied a = subst (λ (n : NodeView D). MayJoin state honest store shards (Some n) seen low tried) (sym a.0) tied
-    node_flushed old reply new seen low tried tied a = absurd a
-
-    -- what was flushed may join the list
-    pub flush_may_join : (old new : Option (NodeView D)) (reply : Reply) (seen : List Entry) (low : ℕ) (tried : List Attempt) → IsTiedThere state honest store shards old seen low tried
-        → AnsweredThere state honest moment left_since old Flush reply new → MayJoin state honest store shards new seen low tried
-    flush_may_join (Some old) (Some new) reply seen low tried tied a = node_flushed old reply new seen low tried tied a
-    flush_may_join old new reply seen low tried tied a = absurd a
+    checkpoint_may_join (Some old) (Some new) reply tied a = node_checkpointed old reply new tied a
+    checkpoint_may_join old new reply tied a = absurd a

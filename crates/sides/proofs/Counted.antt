@@ -3,7 +3,7 @@ use Rattle.std.proofs.Common.{◌≡◌, ◌≤◌, ℕ, List, [], ◌++◌, len
 use Rattle.std.proofs.lemmas.List.{append-nil, nil_from_length}
 use Rattle.sides.proofs.Words.{Entry}
 
--- and where the list is that long there are none
+-- and if the list is that long there are none
 pub none_behind : (place : ℕ) (seen more : List Entry) → place ≡ length (seen ++ more) → place ≤ length seen → seen ≡ seen ++ more
 none_behind place seen more counted le =
     let whole = length-append seen more in

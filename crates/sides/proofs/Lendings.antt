@@ -10,7 +10,7 @@ use Rattle.calls.specs.declared.lending.Flying.TheVariants as flies
 use Rattle.ties.specs.ShardTies.{AreRowsOf, IsShardTiedUp}
 
 module _ {D : Type 0} (state : D → State) (honest : D → Type 0) (store shards s : ℕ) where
-  -- Given a shard, and what stays where its devices are elsewhere
+  -- Given a shard, and what stays if its devices are elsewhere
   module _ (v : ShardView D) (u : ShardView (Away D)) (flight : View D) (flying : OfShard) (lends : ShardLends state honest v u flight flying) (seen : List Entry) (low : ℕ) where
     same_records : u.durable ++ u.staged ≡ v.durable ++ v.staged
     same_records = ap (λ (l : List Record). l ++ u.staged) lends.stays.durable ∙ ap (λ (l : List Record). v.durable ++ l) lends.stays.staged

@@ -8,6 +8,8 @@ pub mod CoordinatorCalls
 pub mod CoordinatorTelling
 pub mod LogJoins
 pub mod Sound
+pub mod Staging
+pub mod LogStaging
 pub mod Lendings
 pub mod Counted
 pub mod LogLendings

@@ -34,7 +34,7 @@ module _ {D : Type 0} (state : D → State) (honest : D → Type 0) (moment : D 
   heads_are_told old new reply a = absurd a
 
 module _ {D : Type 0} (state : D → State) (honest : D → Type 0) (store shards : ℕ) where
-  -- the list with what is kept behind it, of a node that told its heads
+  -- the list with what is kept after it, of a node that told its heads
   pub record JoinsTo (node : Option (NodeView D)) (seen : List Entry) (low : ℕ) (tried : List Attempt) (heads : HeadsValue) : Type 0 where
     pub kept : heads.kept ≡ length (seen ++ behind_in seen node)
     pub within : heads.horizon ≤ heads.kept

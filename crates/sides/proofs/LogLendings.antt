@@ -97,7 +97,7 @@ module _ {E : Type 0} (state_of : E → State) (honest_of : E → Type 0) (v : C
   })
 
 module _ {D : Type 0} (state : D → State) (honest : D → Type 0) (store shards : ℕ) where
-  -- Given a coordinator, and what stays where its devices are elsewhere
+  -- Given a coordinator, and what stays if its devices are elsewhere
   module _ (v : CoordinatorView D) (u : CoordinatorView (Away D)) (flight : View D) (flying : OfCoordinator) (lends : CoordinatorLends state honest v u flight flying) where
     same_records : u.durable ++ u.staged ≡ v.durable ++ v.staged
     same_records = ap (λ (l : List Record). l ++ u.staged) lends.stays.durable ∙ ap (λ (l : List Record). v.durable ++ l) lends.stays.staged

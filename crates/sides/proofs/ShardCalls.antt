@@ -1,16 +1,18 @@
 -- The calls of a shard under its lock leave it tied.
-use Rattle.std.proofs.Common.{◌≡◌, ◌≤◌, ⊎_elim, inl, inr, ◌⊎◌, ℕ, Bool, true, false, List, Result, Option, Some, None, Ok, Err, refl, sym, subst}
+use Rattle.std.proofs.Common.{◌≡◌, ◌≤◌, ⊎_elim, inl, inr, ◌⊎◌, ℕ, Bool, true, false, List, [], Result, Option, Some, None, Ok, Err, refl, sym, subst, arith}
 use Rattle.std.proofs.lemmas.Bool.{false_from_ne_true}
-use Rattle.sides.proofs.Words.{Answered, AnsweredIn, BatchValue, Collect, DropWrite, Entry, from_shard, HeadsValue, IntentValue, IsOpenedShardTied, IsShardTied, IsTiedIn, Known, Learn, left, NodeView, Refusal, refused, Reply, Shard, shard, shard_tied_up_is_tied, ShardAnswers, ShardCall, ShardReply, ShardView, StagePrepare, State, VerdictValue}
+use Rattle.std.proofs.lemmas.List.{append-nil}
+use Rattle.sides.proofs.Words.{Answered, AnsweredIn, BatchValue, Collect, DropWrite, Entry, from_shard, HeadsValue, IntentValue, IsOpenedShardTied, IsShardTied, IsTiedIn, Known, Learn, left, NodeView, Refusal, refused, Reply, Shard, shard, shard_tied_up_is_tied, ShardAnswers, ShardCall, ShardReply, ShardView, Read, ReadForCheck, StagePrepare, State, VerdictValue}
 use Rattle.decisions.specs.Values.{TicketValue}
-use Rattle.calls.specs.declared.call.ShardCall.TheVariants.{Flush, Checkpoint}
+use Rattle.calls.specs.declared.call.ShardCall.TheVariants.{Checkpoint, Flush, InDoubt, Learned, Settle, Vote}
 use Rattle.calls.specs.declared.reply.ShardReply.TheVariants as told_by
 use Rattle.calls.specs.ShardAnswers.{CheckpointAnswers, CollectAnswers, DropAnswers, FlushAnswers, LearnAnswers, PrepareAnswers}
 use Rattle.ties.specs.TellingLaws.{IsBatchOf}
 use Rattle.ties.proofs.ShardCalls.{collections_stay_tied, drops_stay_tied, learnings_stay_tied, prepares_stay_tied, shard_flushes_stay_tied}
 use Rattle.ties.proofs.ShardOpening.{failed_shard_flushes_stay_tied, longer_lists_stay_tied}
 use Rattle.ties.proofs.ShardPoints.{failed_shard_checkpoints_stay_tied, shard_checkpoints_stay_tied}
-use Rattle.sides.specs.Sides.{IsLater}
+use Rattle.ties.proofs.Telling.{batch_longer}
+use Rattle.sides.specs.Sides.{HandsSeen, IsLater, MeetFor, hands_over}
 
 pub up_or_down : (b : Bool) → (b ≡ false) ⊎ (b ≡ true)
 up_or_down false = inl refl
@@ -78,77 +80,47 @@ module _ {D : Type 0} (state : D → State) (honest : D → Type 0) (store shard
         (λ is_down. unchanged (a.down is_down).1)
         (up_or_down old.is_down)
 
--- a call that changes nothing
-abbrev pub IsQuiet : ShardCall → Type 0
-IsQuiet (Learn b) = ⊥
-IsQuiet (StagePrepare intent) = ⊥
-IsQuiet (DropWrite verdict held) = ⊥
-IsQuiet (Collect heads) = ⊥
-IsQuiet Flush = ⊥
-IsQuiet Checkpoint = ⊥
-IsQuiet call = Unit {0}
+-- Given also what a device tells of the moments of a call, and that what a stop may leave now is among what it may leave since an earlier moment
+module _ {D : Type 0} (state : D → State) (honest : D → Type 0) (moment : D → ℕ) (left_since : D → ℕ → List ℕ → Type 0) (counts_now : (d : D) (t : ℕ) (c : List ℕ) → honest d → t ≤ moment d → left (state d) c → left_since d t c)
+    (store shards s : ℕ) where
+  shard_stays : (call : ShardCall) (pass : Known Entry) → HandsSeen pass call → (old new : ShardView D) (reply : ShardReply) → IsOpenedShardTied state honest store shards s old pass.seen pass.horizon
+      → ShardAnswers state honest moment left_since old call reply new → IsOpenedShardTied state honest store shards s new pass.seen pass.horizon
+  shard_stays Learned pass hands old new (told_by.Learned r) tied a = unchanged state honest store shards s old new pass.seen pass.horizon tied a.0
+  shard_stays (Learn b) pass hands old new (told_by.Learn back r) tied a = learned state honest store shards s old new pass.seen pass.horizon tied b r hands a.1
+  shard_stays (StagePrepare intent) pass hands old new (told_by.StagePrepare back r) tied a = prepared state honest store shards s old new pass.seen pass.horizon tied intent r a.1
+  shard_stays (Vote ticket) pass hands old new (told_by.Vote r) tied a = unchanged state honest store shards s old new pass.seen pass.horizon tied a.0
+  shard_stays (DropWrite verdict held) pass hands old new (told_by.DropWrite back r) tied a = dropped state honest store shards s old new pass.seen pass.horizon tied verdict r a.1
+  shard_stays InDoubt pass hands old new (told_by.InDoubt r) tied a = unchanged state honest store shards s old new pass.seen pass.horizon tied a.0
+  shard_stays (Read place set) pass hands old new (told_by.Read back r) tied a = unchanged state honest store shards s old new pass.seen pass.horizon tied a.0
+  shard_stays (ReadForCheck place x u) pass hands old new (told_by.ReadForCheck back_x back_u r) tied a = unchanged state honest store shards s old new pass.seen pass.horizon tied a.0
+  shard_stays Settle pass hands old new (told_by.Settle r) tied a = unchanged state honest store shards s old new pass.seen pass.horizon tied a.0
+  shard_stays (Collect heads) pass hands old new (told_by.Collect back r) tied a = collected state honest store shards s old new pass.seen pass.horizon tied heads r hands a.1
+  shard_stays Flush pass hands old new (told_by.Flush r) tied a = flushed state honest store shards s old new pass.seen pass.horizon tied moment left_since counts_now r a
+  shard_stays Checkpoint pass hands old new (told_by.Checkpoint r) tied a = checkpointed state honest store shards s old new pass.seen pass.horizon tied moment left_since counts_now r a
+  shard_stays call pass hands old new reply tied a = absurd a
 
--- Given also what a device tells of the moments of a call
-module _ {D : Type 0} (state : D → State) (honest : D → Type 0) (moment : D → ℕ) (left_since : D → ℕ → List ℕ → Type 0) (store shards s : ℕ) where
-  abbrev Keeps : ShardCall → Known Entry → Type 0
-  Keeps call pass = (old new : ShardView D) (reply : ShardReply) → IsOpenedShardTied state honest store shards s old pass.seen pass.horizon → ShardAnswers state honest moment left_since old call reply new
-      → IsOpenedShardTied state honest store shards s new pass.seen pass.horizon
-
-  node_stays : (call : ShardCall) (pass : Known Entry) → Keeps call pass → (old : NodeView D) (reply : Reply) (new : NodeView D) → IsShardTied state honest store shards s old pass.seen pass.horizon
+  node_stays : (call : ShardCall) (pass : Known Entry) → HandsSeen pass call → (old : NodeView D) (reply : Reply) (new : NodeView D) → IsShardTied state honest store shards s old pass.seen pass.horizon
       → Answered state honest moment left_since old (Shard s call) reply new → IsShardTied state honest store shards s new pass.seen pass.horizon
-  node_stays call pass keeps (shard old) (from_shard reply) (shard new) tied a = keeps old new reply tied a
-  node_stays call pass keeps (refused e x y) reply new tied a = subst (λ (n : NodeView D). IsShardTied state honest store shards s n pass.seen pass.horizon) (sym a.0) tied
-  node_stays call pass keeps old reply new tied a = absurd a
+  node_stays call pass hands (shard old) (from_shard reply) (shard new) tied a = shard_stays call pass hands old new reply tied a
+  node_stays call pass hands (refused e x y) reply new tied a = subst (λ (n : NodeView D). IsShardTied state honest store shards s n pass.seen pass.horizon) (sym a.0) tied
+  node_stays call pass hands old reply new tied a = absurd a
 
-  -- what leaves the shard tied leaves what lies under the lock tied
-  abbrev Stays : ShardCall → Known Entry → Type 0
-  Stays call pass = (old new : Option (NodeView D)) (reply : Reply) → IsTiedIn state honest store shards s old pass → AnsweredIn state honest moment left_since s old call reply new
-      → IsTiedIn state honest store shards s new pass
+  -- a call leaves what lies under the lock tied to what the pass beside it has seen
+  pub call_stays : (call : ShardCall) (pass : Known Entry) → HandsSeen pass call → (old new : Option (NodeView D)) (reply : Reply) → IsTiedIn state honest store shards s old pass
+      → AnsweredIn state honest moment left_since s old call reply new → IsTiedIn state honest store shards s new pass
+  call_stays call pass hands (Some old) (Some new) reply tied a = node_stays call pass hands old reply new tied a
+  call_stays call pass hands old new reply tied a = absurd a
 
-  stays : (call : ShardCall) (pass : Known Entry) → Keeps call pass → Stays call pass
-  stays call pass keeps (Some old) (Some new) reply tied a = node_stays call pass keeps old reply new tied a
-  stays call pass keeps old new reply tied a = absurd a
+-- what is handed over the shard's pass has seen once it has met the caller's
+pub seen_then : (one other now_one now_other : Known Entry) (call : ShardCall) → MeetFor (hands_over call) one other now_one now_other → HandsSeen other call → HandsSeen now_one call
+seen_then one other now_one now_other (Learn batch) met hands = batch_longer other.seen now_one.seen batch met.0.second.seen hands
+seen_then one other now_one now_other (Collect heads) met hands = let le = met.0.second.horizon in omega (arith, le, hands)
+seen_then one other now_one now_other call met hands = tt
 
-  keeps_learn : (b : BatchValue) (pass : Known Entry) → IsBatchOf pass.seen b → Keeps (Learn b) pass
-  keeps_learn b pass of_list old new (told_by.Learn back r) tied a = learned state honest store shards s old new pass.seen pass.horizon tied b r of_list a.1
-  keeps_learn b pass of_list old new reply tied a = absurd a
+later_self : (pass : Known Entry) → IsLater pass pass
+later_self pass = record { table = refl; seen = ([], append-nil pass.seen); horizon = omega arith }
 
-  pub learn_stays : (b : BatchValue) (pass : Known Entry) → IsBatchOf pass.seen b → Stays (Learn b) pass
-  learn_stays b pass of_list = stays (Learn b) pass (keeps_learn b pass of_list)
-
-  keeps_prepare : (intent : IntentValue) (pass : Known Entry) → Keeps (StagePrepare intent) pass
-  keeps_prepare intent pass old new (told_by.StagePrepare back r) tied a = prepared state honest store shards s old new pass.seen pass.horizon tied intent r a.1
-  keeps_prepare intent pass old new reply tied a = absurd a
-
-  pub prepare_stays : (intent : IntentValue) (pass : Known Entry) → Stays (StagePrepare intent) pass
-  prepare_stays intent pass = stays (StagePrepare intent) pass (keeps_prepare intent pass)
-
-  keeps_drop : (verdict : VerdictValue) (held : _) (pass : Known Entry) → Keeps (DropWrite verdict held) pass
-  keeps_drop verdict held pass old new (told_by.DropWrite back r) tied a = dropped state honest store shards s old new pass.seen pass.horizon tied verdict r a.1
-  keeps_drop verdict held pass old new reply tied a = absurd a
-
-  pub drop_stays : (verdict : VerdictValue) (held : _) (pass : Known Entry) → Stays (DropWrite verdict held) pass
-  drop_stays verdict held pass = stays (DropWrite verdict held) pass (keeps_drop verdict held pass)
-
-  keeps_collect : (heads : HeadsValue) (pass : Known Entry) → heads.horizon ≤ pass.horizon → Keeps (Collect heads) pass
-  keeps_collect heads pass le old new (told_by.Collect back r) tied a = collected state honest store shards s old new pass.seen pass.horizon tied heads r le a.1
-  keeps_collect heads pass le old new reply tied a = absurd a
-
-  pub collect_stays : (heads : HeadsValue) (pass : Known Entry) → heads.horizon ≤ pass.horizon → Stays (Collect heads) pass
-  collect_stays heads pass le = stays (Collect heads) pass (keeps_collect heads pass le)
-
-  -- Given that what a stop may leave now is among what it may leave since an earlier moment
-  module _ (counts_now : (d : D) (t : ℕ) (c : List ℕ) → honest d → t ≤ moment d → left (state d) c → left_since d t c) where
-    keeps_flush : (pass : Known Entry) → Keeps Flush pass
-    keeps_flush pass old new (told_by.Flush r) tied a = flushed state honest store shards s old new pass.seen pass.horizon tied moment left_since counts_now r a
-    keeps_flush pass old new reply tied a = absurd a
-
-    pub flush_stays : (pass : Known Entry) → Stays Flush pass
-    flush_stays pass = stays Flush pass (keeps_flush pass)
-
-    keeps_checkpoint : (pass : Known Entry) → Keeps Checkpoint pass
-    keeps_checkpoint pass old new (told_by.Checkpoint r) tied a = checkpointed state honest store shards s old new pass.seen pass.horizon tied moment left_since counts_now r a
-    keeps_checkpoint pass old new reply tied a = absurd a
-
-    pub checkpoint_stays : (pass : Known Entry) → Stays Checkpoint pass
-    checkpoint_stays pass = stays Checkpoint pass (keeps_checkpoint pass)
+-- and both know what they knew
+pub met_later : (is_of_list : Bool) (one other now_one now_other : Known Entry) → MeetFor is_of_list one other now_one now_other → IsLater one now_one × IsLater other now_other
+met_later true one other now_one now_other met = (met.0.first, met.1.second)
+met_later false one other now_one now_other met = (subst (IsLater one) (sym met.0) (later_self one), subst (IsLater other) (sym met.1) (later_self other))

@@ -8,8 +8,9 @@ use Rattle.decisions.specs.Coordinators.{IsRunning}
 use Rattle.calls.specs.declared.call.ShardCall.TheVariants as shard_calls
 use Rattle.calls.specs.declared.reply.CoordinatorReply.TheVariants as told
 use Rattle.calls.specs.declared.reply.ShardReply.TheVariants as told_by
-use Rattle.calls.specs.Asking.{MayAsk, MayAskShard}
+use Rattle.calls.specs.Asking.{MayAsk, MayAskCoordinator, MayAskShard}
 use Rattle.calls.specs.Opening.{refusal_of}
+use Rattle.sides.specs.CoordinatorSides.{MayAskThere}
 use Rattle.sides.specs.Joining.{RunsThere}
 use Rattle.sides.specs.Sides.{MayAskIn}
 use Rattle.sides.proofs.Revived.{still}
@@ -18,6 +19,13 @@ module _ {D : Type 0} (state : D → State) (honest : D → Type 0) (store shard
   pub log_is_there : (node : Option (NodeView D)) → IsSoundThere state honest store shards node → is_some node ≡ true
   log_is_there (Some node) sound = refl
   log_is_there None sound = absurd sound
+
+  -- it may be asked what its store's coordinator may be asked
+  pub log_may_ask : (node : Option (NodeView D)) (call : CoordinatorCall) → IsSoundThere state honest store shards node → MayAskCoordinator shards call → MayAskThere node call
+  log_may_ask (Some (coordinator v)) call sound may = subst (λ (n : ℕ). MayAskCoordinator n call) (sym (ap (λ (me : Identity). me.shards) sound.me)) may
+  log_may_ask (Some (refused e a b)) call sound may = tt
+  log_may_ask (Some (shard v)) call sound may = absurd sound
+  log_may_ask None call sound may = absurd sound
 
   -- Given a coordinator before and after a call
   module _ (old new : CoordinatorView D) (sound : IsSound state honest store shards old) where

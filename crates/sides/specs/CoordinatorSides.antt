@@ -1,5 +1,5 @@
 -- The coordinator under its lock, as its callers see it, and what each of its calls leaves of it and tells.
-use Rattle.std.specs.Prelude.{◌≡◌, false, ◌≤◌, ◌<◌, ◌-◌, ℕ, min, List, [], ◌∷◌, ◌++◌, length, Option, Some, None, Ok, slice_get}
+use Rattle.std.specs.Prelude.{◌≡◌, Bool, true, false, ◌≤◌, ◌<◌, ◌-◌, ℕ, min, List, [], ◌∷◌, ◌++◌, length, Option, Some, None, Ok, slice_get}
 use mathlib.Core.List.{IsPrefix}
 use Rattle.tuples.specs.declared.entry.Entry.{Entry}
 use Rattle.tuples.specs.declared.entry.WriteId.{WriteId}
@@ -14,6 +14,7 @@ use Rattle.coordinator.specs.declared.telling.Inquiry.TheVariants.{Commit}
 use Rattle.coordinator.specs.declared.telling.Outcome.TheVariants.{Kept, Later}
 use Rattle.calls.specs.declared.call.NodeCall.TheVariants.{Coordinator}
 use Rattle.calls.specs.declared.call.CoordinatorCall.{CoordinatorCall}
+use Rattle.calls.specs.declared.call.CoordinatorCall.TheVariants as calls
 use Rattle.calls.specs.declared.reply.Reply.{Reply}
 use Rattle.calls.specs.declared.reply.Reply.TheVariants.{Coordinator as from_coordinator}
 use Rattle.calls.specs.declared.reply.CoordinatorReply.TheVariants as told
@@ -23,6 +24,7 @@ use Rattle.calls.specs.Views.{NodeView, coordinator, refused, shard}
 use Rattle.ties.specs.DecidingLaws.{StandsAt, attempt}
 use Rattle.ties.specs.TellingLaws.{IsBatchOf}
 use Rattle.ties.specs.Ties.{Attempt, IsTied}
+use Rattle.sides.specs.Joining.{nothing}
 use Rattle.sides.specs.Sides.{IsLater}
 
 -- The node, the whole list of writes, the horizon, and all decisions that were once staged. The node is always there; only while it is opened again it is
@@ -44,6 +46,17 @@ pub record HasLaterList {D E : Type 0} (old : LogSide D) (new : LogSide E) : Typ
   pub seen : IsPrefix old.seen new.seen
   pub low : old.low ≤ new.low
   pub tried : new.tried ≡ old.tried
+
+-- a call that needs the devices
+abbrev pub is_log_flush : CoordinatorCall → Bool
+is_log_flush calls.Flush = true
+is_log_flush calls.Checkpoint = true
+is_log_flush call = false
+
+-- the write that a call has decided; of another call, one that was never made
+abbrev pub write_of : CoordinatorCall → Entry
+write_of (calls.Decide intent votes) = intent.write
+write_of call = nothing
 
 -- the decision of this write that a reply tells as staged
 abbrev pub tried_by : Entry → Reply → List Attempt
@@ -141,3 +154,13 @@ abbrev pub TellsKept : List Entry → List Attempt → DecidedValue → Reply �
 TellsKept seen tried decided (from_coordinator (told.Outcome (Kept place))) = (place ≡ decided.place) × ((w : Entry) → IsTried tried decided w → StandsAt place w seen)
 TellsKept seen tried decided (from_coordinator (told.Outcome (Later back))) = back ≡ decided
 TellsKept seen tried decided reply = Unit {0}
+
+-- what the reply to a call tells of the list, of its horizon, and of the decisions that were once staged
+abbrev pub TellsOf : List Entry → ℕ → List Attempt → CoordinatorCall → Reply → Type 0
+TellsOf seen low tried (calls.Begin write) reply = TellsBegun write seen reply
+TellsOf seen low tried calls.Heads reply = TellsHeads seen low reply
+TellsOf seen low tried (calls.Batch from to) reply = TellsBatch seen from to reply
+TellsOf seen low tried (calls.Decide intent votes) reply = TellsDecided seen reply
+TellsOf seen low tried (calls.Outcome decided) reply = TellsKept seen tried decided reply
+TellsOf seen low tried (calls.Inquire id) reply = TellsFound seen id reply
+TellsOf seen low tried call reply = Unit {0}

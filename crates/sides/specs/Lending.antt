@@ -1,5 +1,6 @@
 -- A node under its lock whose devices are elsewhere, and what it is once they are back.
 use Rattle.std.specs.Prelude.{◌≡◌, ◌⊎◌, ◌++◌, ℕ, false, List, take, Option, Some, None, Ok}
+use mathlib.Core.List.{IsPrefix}
 use Rattle.refusal.specs.declared.refusal.Refusal.{Refusal}
 use Rattle.tuples.specs.declared.entry.Entry.{Entry}
 use Rattle.records.specs.declared.record.Record.{Record}
@@ -26,12 +27,24 @@ IsUpIn (Some (coordinator v)) = ⊥
 IsUpIn (Some (refused e a b)) = ⊥
 IsUpIn None = ⊥
 
+-- what a shard had staged is staged before anything else, and what is durable is as it was
+abbrev pub StagesMoreIn : {D : Type 0} → Option (NodeView D) → Option (NodeView D) → Type 0
+StagesMoreIn (Some (shard old)) (Some (shard new)) = (new.durable ≡ old.durable) × IsPrefix old.staged new.staged
+StagesMoreIn (Some (shard old)) new = ⊥
+StagesMoreIn old new = Unit {0}
+
 -- the node is a coordinator that is up
 abbrev pub IsUpThere : {D : Type 0} → Option (NodeView D) → Type 0
 IsUpThere (Some (coordinator v)) = v.is_down ≡ false
 IsUpThere (Some (shard v)) = ⊥
 IsUpThere (Some (refused e a b)) = ⊥
 IsUpThere None = ⊥
+
+-- the same of a coordinator, which is up if it was
+abbrev pub LogStagesMoreIn : {D : Type 0} → Option (NodeView D) → Option (NodeView D) → Type 0
+LogStagesMoreIn (Some (coordinator old)) (Some (coordinator new)) = (new.durable ≡ old.durable) × IsPrefix old.staged new.staged × (new.is_down ≡ old.is_down)
+LogStagesMoreIn (Some (coordinator old)) new = ⊥
+LogStagesMoreIn old new = Unit {0}
 
 -- the refusal of the node's opening, if that was refused
 abbrev pub refusal_in : {D : Type 0} → Option (NodeView D) → Option Refusal

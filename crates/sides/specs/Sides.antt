@@ -1,5 +1,5 @@
 -- A shard under its lock, as its callers see it, and what each of its calls leaves of it.
-use Rattle.std.specs.Prelude.{◌≡◌, ◌≤◌, ℕ, max, List, [], length, Option, Some, None, Result, Ok}
+use Rattle.std.specs.Prelude.{◌≡◌, ◌≤◌, ℕ, max, Bool, true, false, List, [], length, Option, Some, None, Result, Ok}
 use mathlib.Core.List.{IsPrefix}
 use Rattle.atomic_table.specs.Seated.{TableId}
 use Rattle.tuples.specs.declared.entry.Entry.{Entry}
@@ -12,7 +12,7 @@ use Rattle.shard.specs.declared.replies.ReadReply.{ReadReply}
 use Rattle.shard.specs.declared.replies.ReadReply.TheVariants.{Rows}
 use Rattle.calls.specs.declared.call.NodeCall.TheVariants.{Shard}
 use Rattle.calls.specs.declared.call.ShardCall.{ShardCall}
-use Rattle.calls.specs.declared.call.ShardCall.TheVariants.{Read, ReadForCheck}
+use Rattle.calls.specs.declared.call.ShardCall.TheVariants.{Checkpoint, Collect, Flush, Learn, Read, ReadForCheck}
 use Rattle.calls.specs.declared.reply.Reply.{Reply}
 use Rattle.calls.specs.Asking.{Answered, MayAsk}
 use Rattle.calls.specs.Belonging.{IsReplyTo}
@@ -20,6 +20,7 @@ use Rattle.calls.specs.Views.{NodeView, bank_len_of, coordinator, refused, shard
 use Rattle.laws.specs.Shards.{there_of}
 use Rattle.laws.specs.Worlds.{shard_node}
 use Rattle.ties.specs.ShardTies.{IsShardTied}
+use Rattle.ties.specs.TellingLaws.{IsBatchOf}
 
 -- the words of no store
 abbrev pub no_table : TableId
@@ -64,6 +65,29 @@ IsOfShard store shards s None = ⊥
 abbrev pub bank_len_in : {D : Type 0} → Option (NodeView D) → ℕ
 bank_len_in (Some node) = bank_len_of node
 bank_len_in None = 0
+
+-- a call that needs the devices
+abbrev pub is_flush : ShardCall → Bool
+is_flush Flush = true
+is_flush Checkpoint = true
+is_flush call = false
+
+-- a call that hands a shard something of the list: a batch, or a horizon
+abbrev pub hands_over : ShardCall → Bool
+hands_over (Learn batch) = true
+hands_over (Collect heads) = true
+hands_over call = false
+
+-- what a call hands a shard is of the list, or of the horizon, that a pass has seen
+abbrev pub HandsSeen : Known Entry → ShardCall → Type 0
+HandsSeen pass (Learn batch) = IsBatchOf pass.seen batch
+HandsSeen pass (Collect heads) = heads.horizon ≤ pass.horizon
+HandsSeen pass call = Unit {0}
+
+-- What a shard's pass and its caller's know after a call. If it hands something over, both know what either knew; else they are as they were.
+abbrev pub MeetFor : Bool → Known Entry → Known Entry → Known Entry → Known Entry → Type 0
+MeetFor true one other now_one now_other = KnowsBoth one other now_one × KnowsBoth one other now_other
+MeetFor false one other now_one now_other = (now_one ≡ one) × (now_other ≡ other)
 
 -- the node of shard s is there, and may be asked this
 abbrev pub MayAskIn : {D : Type 0} → ℕ → Option (NodeView D) → ShardCall → Type 0

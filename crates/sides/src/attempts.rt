@@ -1,10 +1,9 @@
 // All decisions that a coordinator has ever staged.
 ghost use Rattle.std.specs.Prelude.{◌≡◌, ◌+◌, ◌++◌, ◌<◌, ◌^◌, [], length};
-ghost use Rattle.sides.specs.CoordinatorSides.{tried_by};
+ghost use Rattle.sides.specs.CoordinatorSides.{tried_by, write_of};
 ghost use Rattle.tuples.specs.declared.entry.Entry.{Entry as AnyEntry};
 
-use calls::{CoordinatorReply, Reply};
-use decisions::Intent;
+use calls::{CoordinatorCall, CoordinatorReply, Reply};
 use published::{Adds, LogPass, Published};
 use std::alloc::{AllocError, Global};
 use std::marker::{Brand, Model};
@@ -74,31 +73,31 @@ fn count_in(reply: &Reply) -> u64
 fn announce<A: Adds<Attempt>>(
     words: &Published<Attempt>,
     log: &mut LogPass<Attempt>,
-    intent: &Snapshot<Intent>,
+    call: &Snapshot<CoordinatorCall>,
     reply: &Reply,
 )
     requires own { log.old.table ≡ words.now }
     requires room { length log.old.seen + 1 < 2 ^ 64 }
-    requires added { A.added ≡ tried_by intent.now.value.write reply.now }
+    requires added { A.added ≡ tried_by (write_of call.now.value) reply.now }
     ensures same { log.new.table ≡ log.old.table }
-    ensures added { log.new.seen ≡ log.old.seen ++ tried_by intent.now.value.write reply.now }
+    ensures added { log.new.seen ≡ log.old.seen ++ tried_by (write_of call.now.value) reply.now }
 {
-    let _intent = intent;
+    let _call = call;
     let place = words.length(log) + count_in(reply);
     words.advance::<A>(log, place);
 }
 
-/// The decision of this intent's write that the reply tells as staged, if it tells one, is one more that was ever staged.
+/// The decision that the reply to this call tells as staged, if it tells one, is one more that was ever staged.
 pub(crate) fn note_decision(
     words: &Published<Attempt>,
     log: &mut LogPass<Attempt>,
-    intent: &Snapshot<Intent>,
+    call: &Snapshot<CoordinatorCall>,
     reply: &Reply,
 )
     requires own { log.old.table ≡ words.now }
     requires room { length log.old.seen + 1 < 2 ^ 64 }
     ensures same { log.new.table ≡ log.old.table }
-    ensures added { log.new.seen ≡ log.old.seen ++ tried_by intent.now.value.write reply.now }
+    ensures added { log.new.seen ≡ log.old.seen ++ tried_by (write_of call.now.value) reply.now }
 {
-    announce::<Brand>(words, log, intent, reply);
+    announce::<Brand>(words, log, call, reply);
 }

@@ -16,8 +16,7 @@ use tuples::Entry;
 
 /// The coordinator, the pass that alone moves its store's list, and that which alone adds to all decisions that were ever staged.
 ///
-/// Each call of the node is a call here, and leaves it tied to both. One that tells of the list, or of a place in it, takes the caller's pass,
-/// which then knows all that there is; and so does one that stages a decision, or tells what became of it, with the caller's pass of those.
+/// Each call of the node leaves it tied to both (`ask`, `checkpoint`). Its caller then knows all that there is.
 #[derive(Drop)]
 pub struct CoordinatorSide<D: Device, B: Room> {
     // away only while it is opened again

@@ -9,27 +9,21 @@
 //! Start at `specs/Sides.antt`, and then `ShardSide`; at `specs/CoordinatorSides.antt`, and then `CoordinatorSide`.
 #![tactic(auto)]
 
+mod asking;
 mod attempts;
 mod caller;
 mod checkpointing;
-mod collecting;
+mod coordinator_asking;
 mod coordinator_lending;
 mod coordinator_side;
 mod joining;
-mod keeping;
 mod launch;
-mod learning;
 mod lending;
-mod listing;
 mod lists;
-mod preparing;
-mod reading;
 mod reopening;
 mod returning;
 mod room;
 mod shard_side;
-mod telling;
-mod writing;
 
 pub use attempts::{Attempt, Attempts};
 pub use caller::{Caller, Pass, Tried};

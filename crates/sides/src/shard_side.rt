@@ -19,9 +19,8 @@ use tuples::{Entry, Refusal};
 
 /// A shard, and the pass of what it has seen of its store's list.
 ///
-/// Each call of the node is a call here, and leaves it tied to the list. One that needs or tells a fact of the list takes the caller's pass, and
-/// shares first: the shard may then know no less than its caller, and the caller no less than the shard. A read tells its caller, and leaves all as it is, so
-/// that several may read at once.
+/// Each call of the node leaves it tied to the list (`ask`). If one hands over something of the list, the shard and its caller first learn what either
+/// knows. A read tells its caller, and leaves all as it is, so that several may read at once (`look`).
 #[derive(Drop)]
 pub struct ShardSide<D: Device, B: Room> {
     // away only while it is opened again

@@ -4,7 +4,7 @@ use Rattle.stores.proofs.Words.{CoordinatorKnows, CoordinatorState, Entry, IsOpe
 use Rattle.stores.specs.AbortLaws.{AbortsStand}
 use Rattle.stores.proofs.FlowBegins.{same_verdict}
 use Rattle.stores.proofs.Frames.{KeepsDoubts, KeepsStore, decision_on, frame, given_on, same_doubts, same_knew, same_taken, ticket_on, undecided_on, verdict_on, vote_on}
-use Rattle.stores.proofs.DecisionLists.{few_still, new_without, other_without, stays_without}
+use Rattle.laws.proofs.Without.{few_still, new_without, other_without, stays_without}
 use Rattle.stores.proofs.ShardStagesStands.{contained_at, contained_from}
 use Rattle.stores.proofs.FlowGoesOn.{sees_more, flows_turn}
 

@@ -7,7 +7,7 @@ use Rattle.tuples.specs.Parts.{expected}
 use Rattle.tuples.proofs.Lists.{slice_get_last}
 use Rattle.stores.specs.DecidingLaws.{DecidersStand, DecisionsStand, VotesPrepare}
 use Rattle.laws.proofs.WriteConditions.{conditions_hold_by_parts, decisions_leave_conditions}
-use Rattle.stores.proofs.DecisionLists.{stays_without}
+use Rattle.laws.proofs.Without.{stays_without}
 use Rattle.stores.proofs.Frames.{KeepsWrite, batch_on, frame, same_doubts, ticket_on}
 use Rattle.stores.proofs.DecisionNodes.{keeps, given_kept, heads_kept, ids_kept, listed_kept, locks_kept, nodes_kept, own_given, rests_kept, unlisted_longer, verdict_kept}
 

@@ -8,7 +8,8 @@ use Rattle.records.specs.declared.record.Record.TheVariants.{Checkpoint}
 use Rattle.laws.proofs.CoordinatorSteps.{decisions_rest}
 use Rattle.stores.proofs.CoordinatorStages as stages
 use Rattle.stores.proofs.Frames.{KeepsStore, given_on, shard_less, verdict_on}
-use Rattle.stores.proofs.DecisionLists.{slice_get_longer, few_still, new_without, other_without}
+use Rattle.tuples.proofs.Lists.{slice_get_longer}
+use Rattle.laws.proofs.Without.{few_still, new_without, other_without}
 use Rattle.stores.proofs.ShardStages.{durable_in}
 use Rattle.stores.proofs.ShardStagesStands.{contained_at, contained_from}
 use Rattle.laws.proofs.DecisionStep.{listed_means}

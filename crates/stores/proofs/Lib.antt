@@ -18,7 +18,6 @@ pub mod AbortCauses
 pub mod RaiseStep
 pub mod DecisionNodes
 pub mod DecisionFlows
-pub mod DecisionLists
 pub mod NewStore
 pub mod Frames
 pub mod CoordinatorStages
@@ -30,3 +29,4 @@ pub mod PrepareTurn
 pub mod Batches
 pub mod CheckWalk
 pub mod ShardChanges
+pub mod Stopping

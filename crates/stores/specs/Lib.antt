@@ -17,3 +17,4 @@ pub mod AbortLaws
 pub mod HeadsLaws
 pub mod ReadingLaws
 pub mod CheckingLaws
+pub mod StoppingLaws

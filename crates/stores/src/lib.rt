@@ -18,6 +18,7 @@ mod prepare_laws;
 mod raising_laws;
 mod reading_laws;
 mod staging_laws;
+mod stopping_laws;
 
 pub use abort_laws::{
     aborts_leave_the_store_standing, decisions_that_are_found_are_kept,
@@ -55,3 +56,4 @@ pub use staging_laws::{
     collected_rows_leave_the_store_standing, drops_leave_the_store_standing,
     learned_writes_leave_the_store_standing, prepares_leave_the_store_standing,
 };
+pub use stopping_laws::what_is_left_rests;

@@ -43,18 +43,18 @@ bits_of_both xs ys a b ha hb k =
     bit_at_or a b k ∙ ap (λ (m : ℕ). max m (bit_at b k)) (ha k) ∙ ap (max (cond (list_any p xs) 1 0)) (hb k)
     ∙ max_flags (list_any p xs) (list_any p ys) ∙ ap (λ (f : Bool). cond f 1 0) (sym (list_any-append p xs ys))
 
--- the next item counts where it passes
+-- the next item counts if it passes
 more : {X : Type 0} (f : X → ℕ) (k : ℕ) (x : X) (xs : List X) → list_any (λ n. eqb n k) (map f xs) ≡ not (eqb (length (filter (λ x. eqb (f x) k) xs)) 0)
     → (b : Bool) → eqb (f x) k ≡ b → list_any (λ n. eqb n k) (map f (x ∷ xs)) ≡ not (eqb (length (filter (λ x. eqb (f x) k) (x ∷ xs))) 0)
 more f k x xs rest true e = rw e (sym (ap not (ne_eqb (suc (length (filter (λ x. eqb (f x) k) xs))) 0 (λ none. omega (arith, none)))))
 more f k x xs rest false e = rw e rest
 
--- some number of the list is this one where a filter by it leaves an item
+-- some number of the list is this one if a filter by it leaves an item
 some_left : {X : Type 0} (f : X → ℕ) (k : ℕ) (xs : List X) → list_any (λ n. eqb n k) (map f xs) ≡ not (eqb (length (filter (λ x. eqb (f x) k) xs)) 0)
 some_left f k [] = refl
 some_left f k (x ∷ xs) = more f k x xs (some_left f k xs) (eqb (f x) k) refl
 
--- a shard takes part where its bit is set
+-- a shard takes part if its bit is set
 pub takes_part_by_bit : (shards s : ℕ) (w : Entry) (bits : ℕ)
     → AreBitsOf (map (λ (c : Change). shard_of shards (tuple_of c).object) w.changes ++ map (λ (c : Condition). shard_of shards c.tuple.object) w.conditions) bits
     → bit_at bits s ≡ cond (takes_part shards s w) 1 0
@@ -67,7 +67,7 @@ takes_part_by_bit shards s w bits h =
     ∙ ap (λ (f : Bool). f || list_any p (map condition w.conditions)) (some_left change s w.changes)
     ∙ ap (λ (f : Bool). not (eqb (length (filter (λ (c : Change). eqb (change c) s) w.changes)) 0) || f) (some_left condition s w.conditions))
 
--- a flag is set where the bit is
+-- a flag is set if the bit is
 pub set_by_bit : (bits k : ℕ) (flag : Bool) → bit_at bits k ≡ cond flag 1 0 → IsBitSet bits k ↔ (flag ≡ true)
 set_by_bit bits k true h = (λ set. refl, λ yes. by_one)
   where

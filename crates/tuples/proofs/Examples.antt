@@ -117,7 +117,7 @@ asks want = numbered 2 (Touch (viewed 98) ∷ []) (record { tuple = viewed 97; w
 abbrev pub first_then : Entry → List Entry
 first_then w = numbered 1 (Touch (viewed 97) ∷ []) [] ∷ w ∷ []
 
--- what a log with one condition behind its first write would have to hold
+-- what a log with one condition after its first write would have to hold
 at_the_second : (want : Want) → IsLegal (first_then (asks want)) → Holds (numbered 1 (Touch (viewed 97) ∷ []) [] ∷ []) (record { tuple = viewed 97; want = want })
 unfolding IsLegal HoldAfter
 at_the_second want legal = All-head (Holds (numbered 1 (Touch (viewed 97) ∷ []) [] ∷ [])) (record { tuple = viewed 97; want = want }) [] (legal 1 (asks want) refl)

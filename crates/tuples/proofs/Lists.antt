@@ -39,12 +39,12 @@ slice_get_longer [] ys i x is = absurd cc
 slice_get_longer (y ∷ xs) ys zero x is = is
 slice_get_longer (y ∷ xs) ys (suc i) x is = slice_get_longer xs ys i x is
 
--- and what stands in the second of two lists, behind the first
+-- and what stands in the second of two lists, after the first
 pub slice_get_behind : {X : Type 0} (xs ys : List X) (j : ℕ) (x : X) → slice_get ys j ≡ Some x → slice_get (xs ++ ys) (length xs + j) ≡ Some x
 slice_get_behind [] ys j x is = let e : 0 + j ≡ j = omega arith in subst (λ (i : ℕ). slice_get ys i ≡ Some x) (sym e) is
 slice_get_behind (y ∷ xs) ys j x is = let e : length (y ∷ xs) + j ≡ suc (length xs + j) = omega arith in subst (λ (i : ℕ). slice_get (y ∷ xs ++ ys) i ≡ Some x) (sym e) (slice_get_behind xs ys j x is)
 
--- an element of two lists, one behind the other, is of the first or of the second
+-- an element of two lists, one after the other, is of the first or of the second
 pub slice_get_either : {X : Type 0} (xs ys : List X) (j : ℕ) (x : X) → slice_get (xs ++ ys) j ≡ Some x → (slice_get xs j ≡ Some x) ⊎ ((i : ℕ) × (j ≡ length xs + i) × (slice_get ys i ≡ Some x))
 slice_get_either [] ys j x is = inr (j, omega arith, is)
 slice_get_either (y ∷ xs) ys zero x is = inl is

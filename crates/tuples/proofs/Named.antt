@@ -18,7 +18,7 @@ pub tuple_equivalence : IsEquivalence tuple_eq
 unfolding tuple_eq
 tuple_equivalence = eq_by_cmp_equiv tuple_total
 
--- the tuple is one of these exactly where the list contains it
+-- the tuple is one of these exactly if the list contains it
 contained_from_has : (t : Tuple) (ts : List Tuple) → has_tuple t ts ≡ true → Contains ts t
 contained_from_has t ts h =
     let found = Any-from_list_any (tuple_eq t) ts h in
@@ -32,7 +32,7 @@ pub shard_below : (shards : ℕ) (o : Object) → 1 ≤ shards → shard_of shar
 unfolding shard_of
 shard_below shards o some = omega arith
 
--- what holds of an item and of all behind it holds of all from it on
+-- what holds of an item and of all after it holds of all from it on
 pub all_from_here : {A : Type 0} (P : Tuple → Type 0) (tuple_in : A → Tuple) (items : List A) (i : ℕ) (x : A) → i < length items → P (tuple_in (get_or items i x)) → All P (map tuple_in (drop (i + 1) items)) → All P (map tuple_in (drop i items))
 all_from_here P tuple_in items i x within here rest =
     subst (λ l. All P (map tuple_in l)) (sym (drop_more items i x within)) (All-cons P (tuple_in (get_or items i x)) (map tuple_in (drop (i + 1) items)) here rest)

@@ -30,7 +30,7 @@ pub on_err : {T E P : Type 0} (r : Result T E) → P → OnErr r P
 on_err (Ok x) p = tt
 on_err (Err e) p = p
 
--- a call whose error takes down what it was made on went well where that is up
+-- a call whose error takes down what it was made on went well if that is up
 pub went_well : {T E P : Type 0} (Q : E → Type 0) (r : Result T E) (down : Bool) → IfErr r (λ e. Q e × (down ≡ true)) → down ≡ false → OnOk r P → P
 went_well Q (Ok x) down err up ok = ok
 went_well Q (Err e) down err up ok = absurd (true≢false (sym err.1 ∙ up))

@@ -55,7 +55,7 @@ below x y = is_less x y (nat_cmp x y) (ranks x y)
 above : (x y : ℕ) → y < x → nat_cmp x y ≡ Greater
 above x y = is_greater x y (nat_cmp x y) (ranks x y)
 
--- two texts with marks behind their fronts: the fronts decide, then the marks, then the rest
+-- two texts with marks after their fronts: the fronts decide, then the marks, then the rest
 pub marked_cmp : (a b : List ℕ) (s t : ℕ) (x y : List ℕ) → s ≤ 2 → t ≤ 2 → AreAbove a → AreAbove b
     → name_cmp (a ++ s ∷ x) (b ++ t ∷ y) ≡ ordering_then (name_cmp a b) (name_cmp (s ∷ x) (t ∷ y))
 marked_cmp [] [] s t x y hs ht ha hb = refl
@@ -77,7 +77,7 @@ same_mark_cmp m x y = ap (λ o. ordering_then o (name_cmp x y)) (is_level m (nat
 zero_cmp : (a b x y : List ℕ) → AreAbove a → AreAbove b → name_cmp (a ++ 0 ∷ x) (b ++ 0 ∷ y) ≡ ordering_then (name_cmp a b) (name_cmp x y)
 zero_cmp a b x y ha hb = marked_cmp a b 0 0 x y (omega arith) (omega arith) ha hb ∙ ap (ordering_then (name_cmp a b)) (same_mark_cmp 0 x y)
 
--- an object, and what stands behind it
+-- an object, and what stands after it
 object_packing_cmp : (a b : Object) (x y : List ℕ) → IsObject a → IsObject b
     → name_cmp (a.namespace ++ 0 ∷ (a.id ++ 0 ∷ x)) (b.namespace ++ 0 ∷ (b.id ++ 0 ∷ y)) ≡ ordering_then (object_cmp a b) (name_cmp x y)
 object_packing_cmp a b x y va vb =
@@ -98,7 +98,7 @@ userset_rest_cmp a b x y va vb =
     ∙ ap (ordering_then (object_cmp a.object b.object)) (zero_cmp a.relation b.relation x y (name_above a.relation va.relation) (name_above b.relation vb.relation))
     ∙ sym (then_then (object_cmp a.object b.object) (name_cmp a.relation b.relation) (name_cmp x y))
 
--- a namespace, the user behind it, and the rest
+-- a namespace, the user after it, and the rest
 user_rest_cmp : (n k : List ℕ) (u v : User) (x y : List ℕ) → AreAbove n → AreAbove k → IsUser u → IsUser v
     → name_cmp (n ++ (user_packing u ++ 0 ∷ x)) (k ++ (user_packing v ++ 0 ∷ y)) ≡ ordering_then (name_cmp n k) (ordering_then (user_cmp u v) (name_cmp x y))
 user_rest_cmp n k (Id i) (Id j) x y hn hk hu hv =

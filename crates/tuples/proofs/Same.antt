@@ -12,7 +12,7 @@ use Rattle.tuples.specs.declared.user.User.TheVariants.{Id, Set}
 use Rattle.tuples.specs.declared.tuple.Tuple.{Tuple}
 use Rattle.tuples.specs.Order.{name_cmp, object_cmp, userset_cmp, user_cmp, tuple_eq}
 
--- an order by two parts ties where both parts tie
+-- an order by two parts ties if both parts tie
 pub is_eq_then : (a b : Ordering) → is_eq (ordering_then a b) ≡ (is_eq a && is_eq b)
 is_eq_then Less b = refl
 is_eq_then Equal b = refl

@@ -42,7 +42,7 @@ behind_is a s x hs ha = ap (λ n. drop n (a ++ s ∷ x)) (let e = place_is a s x
 mark_is : (a : List ℕ) (s : ℕ) (x : List ℕ) → s ≤ 2 → AreAbove a → is_of_set (a ++ s ∷ x) ≡ (s == 2)
 mark_is a s x hs ha = ap (λ (m : ℕ). m == 2) (ap (λ n. get_or (a ++ s ∷ x) n 0) (place_is a s x hs ha) ∙ get_mark a s x)
 
--- a userset and what stands behind it
+-- a userset and what stands after it
 userset_again : (s : Userset) (x : List ℕ) → IsUserset s → unpacked_userset (userset_packing s ++ 0 ∷ x) ≡ s
 userset_again s x v =
     let n = s.object.namespace in
@@ -61,7 +61,7 @@ behind_userset s x v =
     let last = ap behind next ∙ behind_is s.object.id 0 (s.relation ++ 0 ∷ x) (omega arith) (id_above s.object.id v.object.id) in
     ap behind last ∙ behind_is s.relation 0 x (omega arith) (name_above s.relation v.relation)
 
--- what stands behind the namespace is unpacked to the user, and to the rest
+-- what stands after the namespace is unpacked to the user, and to the rest
 record IsUserOf (u : User) (n x : List ℕ) : Type 0 where
   namespace : front (n ++ (user_packing u ++ 0 ∷ x)) ≡ n
   user : unpacked_user (is_of_set (n ++ (user_packing u ++ 0 ∷ x))) (behind (n ++ (user_packing u ++ 0 ∷ x))) ≡ u

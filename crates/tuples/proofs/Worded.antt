@@ -1,4 +1,4 @@
--- Texts of bytes are compared a word at a time, a word as a number, and short ones with the zeros behind them.
+-- Texts of bytes are compared a word at a time, a word as a number, and short ones with the zeros after them.
 use Rattle.std.proofs.Common.{◌≡◌, ℕ, zero, suc, ◌+◌, ◌*◌, ◌<◌, ◌≤◌, true, false, List, [], ◌∷◌, ◌++◌, length, get_or, take, drop, replicate, refl, sym, ap, ap₂, ◌∙◌, arith, length-take-le, get_or-drop, take_all, length-drop, w64, zero-le, suc-le-suc}
 use Rattle.std.specs.Cmp.{ranks}
 use Rattle.std.specs.Cmp.Lexicographic.{slice_cmp}
@@ -86,7 +86,7 @@ then_equal Less = refl
 then_equal Equal = refl
 then_equal Greater = refl
 
--- with zeros behind them two texts are compared whole, and by their lengths where that finds nothing
+-- with zeros after them two texts are compared whole, and by their lengths if that finds nothing
 pub padded_cmp : (a b : List ℕ) (l m : ℕ) → length a ≡ length b → l ≤ length a → m ≤ length b → IsPadded a l → IsPadded b m → slice_cmp nat_cmp (take l a) (take m b) ≡ ordering_then (slice_cmp nat_cmp a b) (nat_cmp l m)
 padded_cmp [] [] zero zero e p q g h = refl
 padded_cmp [] [] (suc l) m e p q g h = absurd (omega arith)
@@ -105,7 +105,7 @@ padded_cmp (x ∷ a) (y ∷ b) (suc l) (suc m) e p q g h =
 
 -- words
 
--- the number that the bytes spell behind n, the greatest first
+-- the number that the bytes spell after n, the greatest first
 abbrev spells : ℕ → List ℕ → ℕ
 spells n [] = n
 spells n (x ∷ a) = spells (n * 256 + x) a
@@ -158,7 +158,7 @@ word_cmp a b p q g h =
     ap₂ nat_cmp (word_spells a p) (word_spells b q)
     ∙ spells_cmp 0 (take 8 a) (take 8 b) (length-take-le 8 a p ∙ sym (length-take-le 8 b q)) (first_bytes 8 a g) (first_bytes 8 b h)
 
--- where the first n bytes are alike, those behind the first m of them decide
+-- if the first n bytes are alike, those after the first m of them decide
 pub same_start : (m n : ℕ) (a b : List ℕ) → m ≤ n → slice_cmp nat_cmp (take n a) (take n b) ≡ Equal → slice_cmp nat_cmp a b ≡ slice_cmp nat_cmp (drop m a) (drop m b)
 same_start zero n a b l h = refl
 same_start (suc m) zero a b l h = absurd (omega arith)
@@ -178,7 +178,7 @@ not_ne Less h = absurd cc
 not_ne Equal h = refl
 not_ne Greater h = absurd cc
 
--- where words differ they decide
+-- if words differ they decide
 pub told : (n : ℕ) (a b : List ℕ) (o : Ordering) → o ≡ slice_cmp nat_cmp (take n a) (take n b) → is_ne o ≡ true → o ≡ slice_cmp nat_cmp a b
 told n a b o e h = by o e h ∙ sym (cut_cmp n a b)
   where
@@ -187,11 +187,11 @@ told n a b o e h = by o e h ∙ sym (cut_cmp n a b)
     by Equal e h = absurd cc
     by Greater e h = ap (λ p. ordering_then p (slice_cmp nat_cmp (drop n a) (drop n b))) e
 
--- where they are alike, what is behind them decides, or behind a part of them
+-- if they are alike, what is after them decides, or after a part of them
 pub untold : (m n : ℕ) (a b : List ℕ) (o : Ordering) → m ≤ n → o ≡ slice_cmp nat_cmp (take n a) (take n b) → is_ne o ≡ false → slice_cmp nat_cmp (drop m a) (drop m b) ≡ slice_cmp nat_cmp a b
 untold m n a b o l e h = sym (same_start m n a b l (sym e ∙ not_ne o h))
 
--- zeros behind a text
+-- zeros after a text
 
 pub zeros : (n : ℕ) → IsPadded (replicate n 0) 0
 zeros zero i l = refl

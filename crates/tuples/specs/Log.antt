@@ -33,7 +33,7 @@ last_from found place t (w ∷ log) = last_from (if has_tuple t (changed w.chang
 unfoldable pub last_place : List Entry → Tuple → ℕ
 last_place log t = last_from 0 1 t log
 
--- whether what is wanted of the tuple holds, where its last change is at this place and it is there or not
+-- whether what is wanted of the tuple holds, if its last change is at this place and it is there or not
 abbrev pub meets_want : Want → ℕ → Bool → Bool
 meets_want (NotAfter place) last there = nat_le last place
 meets_want Exists last there = there

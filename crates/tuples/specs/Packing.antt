@@ -1,4 +1,4 @@
--- A tuple as one text: its names and ids, with a mark below each byte of theirs behind all but the last.
+-- A tuple as one text: its names and ids, with a mark below each byte of theirs after all but the last.
 use Rattle.std.specs.Prelude.{◌≡◌, ◌==◌, ◌+◌, ℕ, Bool, nat_le, List, ◌∷◌, ◌++◌, take, drop, get_or, if◌then◌else◌}
 use Rattle.std.specs.List.{position_or_len}
 use Rattle.tuples.specs.declared.object.Userset.{Userset}
@@ -15,7 +15,7 @@ max_packed = 517
 abbrev pub userset_packing : Userset → List ℕ
 userset_packing s = s.object.namespace ++ 0 ∷ (s.object.id ++ 0 ∷ s.relation)
 
--- a plain user behind 1, a userset behind 2
+-- a plain user after 1, a userset after 2
 abbrev pub user_packing : User → List ℕ
 user_packing (Id i) = 1 ∷ i
 user_packing (Set s) = 2 ∷ userset_packing s
@@ -31,7 +31,7 @@ is_mark b = nat_le b 2
 abbrev pub place : List ℕ → ℕ
 place = position_or_len is_mark
 
--- what stands before the first mark, and what behind it
+-- what stands before the first mark, and what after it
 abbrev pub front : List ℕ → List ℕ
 front text = take (place text) text
 
@@ -45,7 +45,7 @@ is_of_set text = get_or text (place text) 0 == 2
 abbrev pub unpacked_userset : List ℕ → Userset
 unpacked_userset text = record { object = record { namespace = front text; id = front (behind text) }; relation = front (behind (behind text)) }
 
--- the user of the kind at whose packing the text begins, and what stands behind it
+-- the user of the kind at whose packing the text begins, and what stands after it
 abbrev pub unpacked_user : Bool → List ℕ → User
 unpacked_user is_set text = if is_set then Set (unpacked_userset text) else Id (front text)
 

@@ -37,7 +37,7 @@ part shards s w = record {
 unfoldable pub takes_part : ℕ → ℕ → Entry → Bool
 takes_part shards s w = not (length (part shards s w).changes == 0) || not (length (part shards s w).conditions == 0)
 
--- what a shard has in doubt of a decided write that it has not learned: exactly its part, and nothing where it has none
+-- what a shard has in doubt of a decided write that it has not learned: exactly its part, and nothing if it has none
 unfoldable pub expected : ℕ → ℕ → Entry → Option Entry
 expected shards s w = if takes_part shards s w then Some (part shards s w) else None
 

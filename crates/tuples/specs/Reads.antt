@@ -9,7 +9,7 @@ use Rattle.tuples.specs.Order.{name_cmp, object_cmp, user_cmp, tuple_eq, tuple_l
 abbrev pub same_name : List ℕ → List ℕ → Bool
 same_name a b = is_eq (name_cmp a b)
 
--- the relation, where one is given
+-- the relation, if one is given
 abbrev pub has_relation : Option (List ℕ) → Tuple → Bool
 has_relation None t = true
 has_relation (Some r) t = same_name t.relation r

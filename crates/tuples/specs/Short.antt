@@ -16,7 +16,7 @@ spelled (Long bytes) = bytes.items
 abbrev pub IsPadded : List ℕ → ℕ → Type 0
 IsPadded bytes place = (i : ℕ) → place ≤ i → slice_index bytes i ≡ 0
 
--- a short one has as many bytes as lie in its value, and zeros behind them
+-- a short one has as many bytes as lie in its value, and zeros after them
 abbrev pub IsSound : Text → Type 0
 IsSound (Short length bytes) = (length ≤ max_short) × IsPadded bytes length
 IsSound (Long bytes) = Unit {0}

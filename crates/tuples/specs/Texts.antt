@@ -26,7 +26,7 @@ user_text (Set s) = userset_text s
 abbrev pub tuple_text : Tuple → List ℕ
 tuple_text t = object_text t.object ++ 35 ∷ t.relation ++ 64 ∷ user_text t.user
 
--- #relation, where one is given
+-- #relation, if one is given
 abbrev pub relation_text : Option (List ℕ) → List ℕ
 relation_text None = []
 relation_text (Some r) = 35 ∷ r

@@ -19,7 +19,7 @@ abbrev pub superseded : ℕ → Version → List Version → Bool
 superseded h v [] = false
 superseded h v (u ∷ rows) = (tuple_eq (tuple_of v.change) (tuple_of u.change) && nat_lt v.place u.place && nat_le u.place h) || superseded h v rows
 
--- what is kept under a horizon: each version above it, and the newest at or below it where that is a touch
+-- what is kept under a horizon: each version above it, and the newest at or below it if that is a touch
 unfoldable pub collected : ℕ → List Version → List Version
 collected h rows = filter (λ v. nat_lt h v.place || (is_touch v.change && not (superseded h v rows))) rows
 

@@ -30,7 +30,7 @@ impl Model for Namespace {
 }
 
 impl Namespace {
-    /// A namespace of these bytes; `BadTuple` where they are none, and never `NoMemory` where they are at most 30.
+    /// A namespace of these bytes; `BadTuple` if they are none, and never `NoMemory` if they are at most 30.
     pub fn parse(alloc: Global, bytes: &[u8]) -> Result<Self, Refusal>
         ensures value { Parses IsName own_text bytes.now result }
         ensures memory { IsErrOf result Refusal.NoMemory → max_short < length bytes.now }

@@ -17,17 +17,17 @@ use std::alloc::{AllocError, Global};
 use std::cmp::Ordering;
 use std::marker::Model;
 
-// Behind a name or an id, but below each byte of theirs. The mark before a user tells its kind.
+// After a name or an id, but below each byte of theirs. The mark before a user tells its kind.
 const END: u8 = 0;
 
 const PLAIN: u8 = 1;
 
 const SET: u8 = 2;
 
-// The bytes of all names and ids of a tuple at most, and of the marks behind all but the last.
+// The bytes of all names and ids of a tuple at most, and of the marks after all but the last.
 const MAX_PACKED: usize = 517;
 
-/// A tuple in four words where its text has at most 30 bytes, ordered by namespace, user, object id and relation.
+/// A tuple in four words if its text has at most 30 bytes, ordered by namespace, user, object id and relation.
 #[derive(Drop)]
 pub struct PackedByUser {
     text: Name,
@@ -45,7 +45,7 @@ impl Model for PackedByUser {
 }
 
 impl PackedByUser {
-    /// The tuple in a packing of its own. It takes no memory where the text has at most 30 bytes.
+    /// The tuple in a packing of its own. It takes no memory if the text has at most 30 bytes.
     pub fn of(alloc: Global, tuple: &Tuple) -> Result<PackedByUser, AllocError>
         ensures value { IfOk result (λ p. p ≡ tuple.now) }
         ensures memory { OnErr result (max_short < length (packing tuple.now)) }
@@ -230,7 +230,7 @@ fn relation_of(alloc: Global, bytes: &[u8]) -> Result<Relation, AllocError>
     }
 }
 
-// The user at whose packing the text begins, behind its mark, and what stands behind it.
+// The user at whose packing the text begins, after its mark, and what stands after it.
 fn user_of(alloc: Global, is_set: bool, text: &[u8]) -> Result<(User, &[u8]), AllocError>
     ensures user { IfOk result (λ r. r.0 ≡ unpacked_user is_set text.now) }
     ensures rest { IfOk result (λ r. r.1.now ≡ behind_user is_set text.now) }

@@ -250,7 +250,7 @@ fn is_own(tuple: &Tuple, shards: Shards, shard: u8) -> bool
     shard_of(&tuple.object, shards) == shard
 }
 
-// The first change that is the shard's, and what stands behind it.
+// The first change that is the shard's, and what stands after it.
 fn first_change(changes: &[Change], shards: Shards, shard: u8) -> Option<(&Change, &[Change])>
     ensures { MatchOption result (own_changes shards shard changes.now ≡ []) (λ found. own_changes shards shard changes.now ≡ found.0.now ∷ own_changes shards shard found.1.now) }
 {
@@ -262,7 +262,7 @@ fn first_change(changes: &[Change], shards: Shards, shard: u8) -> Option<(&Chang
     None
 }
 
-// The first condition that is the shard's, and what stands behind it.
+// The first condition that is the shard's, and what stands after it.
 fn first_condition(
     conditions: &[Condition],
     shards: Shards,

@@ -34,7 +34,7 @@ impl Shards {
         Shards { count }
     }
 
-    /// So many, where a store may have so many: None for 0, and for more than 64.
+    /// So many, if a store may have so many: None for 0, and for more than 64.
     pub fn checked(count: u8) -> Option<Shards>
         ensures exactly { IsSome result ↔ IsShardCount count }
         ensures value { IfSome result (λ shards. shards ≡ count) }

@@ -1,4 +1,4 @@
-// Texts that are appended where there is room for them.
+// Texts that are appended if there is room for them.
 ghost use Rattle.std.specs.Prelude.{◌≡◌, ◌≤◌, ◌+◌, ◌++◌, length, vec_len, vec_capacity};
 
 /// Appends the bytes, for which there is room.

@@ -3,7 +3,7 @@ ghost use Rattle.std.specs.Prelude.{◌≡◌, ◌==◌, MatchOption};
 ghost use Rattle.std.specs.List.{position};
 ghost use Rattle.tuples.specs.Parsing.{IsCut, Lacks};
 
-/// What stands before and after the first such byte of the text, or `None` where it has none.
+/// What stands before and after the first such byte of the text, or `None` if it has none.
 pub(crate) fn split_first(text: &[u8], mark: u8) -> Option<(&[u8], &[u8])>
     ensures { MatchOption result (Lacks mark text.now) (λ parts. IsCut mark text.now parts.0.now parts.1.now) }
 {

@@ -45,7 +45,7 @@ impl Tuple {
         self.user.keeps_grammar();
     }
 
-    /// The tuple that the text spells; `BadTuple` where it spells none.
+    /// The tuple that the text spells; `BadTuple` if it spells none.
     pub fn parse(alloc: Global, text: &[u8]) -> Result<Tuple, Refusal>
         ensures ok { IfOk result (λ t. IsTuple t × (text.now ≡ tuple_text t)) }
         ensures bad { IsErrOf result Refusal.BadTuple → (t : AnyTuple) → IsTuple t → text.now ≡ tuple_text t → ⊥ }
@@ -64,7 +64,7 @@ impl Tuple {
         })
     }
 
-    /// Appends the text. It is refused only where the vector had no room for all of it, and then nothing is written.
+    /// Appends the text. It is refused only if the vector had no room for all of it, and then nothing is written.
     pub fn write_to(&self, out: &mut Vec<u8>) -> Result<(), AllocError>
         ensures ok { OnOk result (out.new.items ≡ out.old.items ++ tuple_text self.now) }
         ensures err { OnErr result (out.new.items ≡ out.old.items) }

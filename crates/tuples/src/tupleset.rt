@@ -13,14 +13,14 @@ use std::alloc::Global;
 pub enum Tupleset {
     /// One tuple, as `doc:readme#viewer@ann`.
     Key(Tuple),
-    /// Those of an object, with this relation where one is given, as `doc:readme` or `doc:readme#viewer`.
+    /// Those of an object, with this relation if one is given, as `doc:readme` or `doc:readme#viewer`.
     OfObject(Object, Option<Relation>),
-    /// Those in a namespace that name this user, with this relation where one is given, as `doc@ann` or `doc#viewer@ann`.
+    /// Those in a namespace that name this user, with this relation if one is given, as `doc@ann` or `doc#viewer@ann`.
     OfUser(Namespace, User, Option<Relation>),
 }
 
 impl Tupleset {
-    /// The tupleset that the text spells; `BadTuple` where it spells none.
+    /// The tupleset that the text spells; `BadTuple` if it spells none.
     pub fn parse(alloc: Global, text: &[u8]) -> Result<Tupleset, Refusal>
         ensures ok { IfOk result (λ q. IsTupleset q × (text.now ≡ tupleset_text q)) }
         ensures bad { IsErrOf result Refusal.BadTuple → (q : AnyTupleset) → IsTupleset q → text.now ≡ tupleset_text q → ⊥ }
@@ -47,7 +47,7 @@ fn parse_of_object(alloc: Global, text: &[u8]) -> Result<Tupleset, Refusal>
     Ok(Tupleset::OfObject(object, relation))
 }
 
-// `namespace` or `namespace#relation`, with the user behind the `@`
+// `namespace` or `namespace#relation`, with the user after the `@`
 fn parse_of_user(alloc: Global, front: &[u8], user: &[u8]) -> Result<Tupleset, Refusal>
     requires no_user { Lacks 64 front.now }
     requires no_object { Lacks 58 front.now }
@@ -60,7 +60,7 @@ fn parse_of_user(alloc: Global, front: &[u8], user: &[u8]) -> Result<Tupleset, R
     Ok(Tupleset::OfUser(namespace, user, relation))
 }
 
-// What stands before the first `#`, and what after it where there is one.
+// What stands before the first `#`, and what after it if there is one.
 fn split_relation(text: &[u8]) -> (&[u8], Option<&[u8]>)
     ensures first { Lacks 35 result.0.now }
     ensures whole { text.now ≡ result.0.now ++ relation_text (option_map (λ r. r.now) result.1) }

@@ -39,8 +39,8 @@ impl Clone for Write {
 }
 
 impl Write {
-    /// A write of these, which takes no memory. It is refused with `BadRequest` where there is no change, with `TooLarge`
-    /// past a limit, and with `Repeated` where two changes or two conditions name one tuple, in this order.
+    /// A write of these, which takes no memory. It is refused with `BadRequest` if there is no change, with `TooLarge`
+    /// past a limit, and with `Repeated` if two changes or two conditions name one tuple, in this order.
     pub fn new(changes: Vec<Change>, conditions: Vec<Condition>) -> Result<Write, Refusal>
         ensures ok { IfOk result (λ w. (w.changes ≡ changes.items) × (w.conditions ≡ conditions.items)) }
         ensures none { IsErrOf result Refusal.BadRequest ↔ (changes.items ≡ []) }

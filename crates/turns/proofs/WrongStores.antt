@@ -177,7 +177,7 @@ unreadable_inside : {D : Type 0} (state : D → State) (honest : D → Type 0) (
     → StopsBetween state honest moment left_since 1 1 old new before after → ⊥
 unreadable_inside state honest moment left_since old new before after a b in_a in_b none between = let rs = between.readable coordinator a b tt in_a in_b in none-some _ (sym none ∙ rs.1)
 
--- a flow acknowledges a place where the log has another's write, though the changes are the same
+-- a flow acknowledges a place if the log has another's write, though the changes are the same
 abbrev second : Running
 second = record (begun 0 (to_write (Touch (viewed 97) ∷ []) [])) { holds = writing (record nothing_begun { id = Some (record { epoch = 1; number = 2 }) }) }
 

@@ -64,7 +64,7 @@ first_before there x i (t ∷ rows) picked up =
     let own = and_parts (is_set_of x t) (there t) (sym (picked_any there (is_set_of x) (t ∷ rows) picked t) ∙ ap (λ (b : Bool). b || list_any (tuple_eq t) rows) (tuple_eq_refl t)) in
     (stands_before x i t own.0, up)
 
--- ---- with the tuple of a plain user, where it is there
+-- ---- with the tuple of a plain user, if it is there
 
 found_both : (a s h : Bool) → (a ≡ true → h ≡ true) → (a || (s && h)) ≡ ((a || s) && h)
 found_both true s h is = sym (is refl)

@@ -245,7 +245,7 @@ check_within x u t v low less has =
 abbrev pub first_named : List ℕ → User → Tuple
 first_named n u = record { object = record { namespace = n; id = 33 ∷ [] }; relation = 48 ∷ []; user = u }
 
--- what decides behind the namespace, and behind the user
+-- what decides after the namespace, and after the user
 abbrev ends : Tuple → Tuple → Ordering
 ends a b = ordering_then (name_cmp a.object.id b.object.id) (name_cmp a.relation b.relation)
 

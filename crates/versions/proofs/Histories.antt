@@ -96,7 +96,7 @@ followed_step p u n h false s is same = rw is (followed_high (nat_lt p u) s ∙ 
     followed_high true b = refl
     followed_high false b = refl
 
--- a row is followed where the newest one under the horizon lies above it
+-- a row is followed if the newest one under the horizon lies above it
 followed_is : (h : ℕ) (t : Tuple) (r : Row) (rows : List Row) → superseded h (version_of t r) (versions_of t rows) ≡ nat_lt r.place (newest_under h rows)
 followed_is h t r [] = sym (zero_least r.place)
   where

@@ -20,7 +20,7 @@ either true true place last = omega arith
 either true false place last = refl
 either false d place last = refl
 
--- the last version behind the changes of one place
+-- the last version after the changes of one place
 last_placed : (place : ℕ) (changes : List Change) (rows : List Version) (t : Tuple)
     → last_version (placed place changes ++ rows) t ≡ (if has_tuple t (changed changes) then max place (last_version rows t) else last_version rows t)
 unfolding last_version

@@ -177,7 +177,7 @@ chosen_from_first place q p es passes (t ∷ us) spelled = elim (cases_Bool (p t
     misses true b implies no_pass = sym (implies refl) ∙ no_pass
     misses false b implies no_pass = refl
 
--- behind one of another user or namespace there is none of them
+-- after one of another user or namespace there is none of them
 none_after : (place : ℕ) (n : List ℕ) (u : User) (q : Tuple → Bool) (es : Entries) (first t : Tuple) → ((v : Tuple) → q v ≡ true → is_of_user n u v ≡ true) → IsFirstOf n u first → is_le (by_user_cmp first t) ≡ true → is_of_user n u t ≡ false → (us : List Tuple) → AllByRecursion (λ v. by_user_cmp t v ≡ Less) us → chosen_of place q es us ≡ []
 none_after place n u q es first t is_of is low misses [] above = refl
 none_after place n u q es first t is_of is low misses (v ∷ us) above =

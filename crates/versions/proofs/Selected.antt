@@ -155,7 +155,7 @@ none_after place q first t is low misses ((u, h) ∷ es) above =
     out true implies = sym (implies refl) ∙ misses
     out false implies = refl
 
--- behind one that does not pass the test none does
+-- after one that does not pass the test none does
 pub none_left : (place : ℕ) (q : Tuple → Bool) (first t : Tuple) (h : Vec Row) (es : Entries) → IsFirst q first → IsWalk first ((t, h) ∷ es) → q t ≡ false → kept_of place q ((t, h) ∷ es) ≡ []
 unfolding IsStrictlySortedBy
 none_left place q first t h es is walk misses =
@@ -218,7 +218,7 @@ none_beyond place q p first t within low out ((u, h) ∷ es) above =
     missed true implies = sym (implies refl) ∙ out
     missed false implies = refl
 
--- behind one that does not pass the wider test none passes the other
+-- after one that does not pass the wider test none passes the other
 pub none_past : (place : ℕ) (q p : Tuple → Bool) (first t : Tuple) (h : Vec Row) (es : Entries) → ((v u : Tuple) → is_le (tuple_cmp first v) ≡ true → tuple_cmp v u ≡ Less → q u ≡ true → p v ≡ true) → q t ≡ false → IsWalk first ((t, h) ∷ es) → p t ≡ false → kept_of place q ((t, h) ∷ es) ≡ []
 unfolding IsStrictlySortedBy
 none_past place q p first t h es within misses walk out =

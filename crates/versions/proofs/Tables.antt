@@ -171,7 +171,7 @@ none_or_some : (b : Bool) (t : Tuple) (w : Vec Row) (rest : Entries) → (b ≡ 
 none_or_some true t w rest empty = refl
 none_or_some false t w rest empty = sym (ap (λ (l : List Row). versions_of t l ++ listed rest) (empty refl))
 
--- a walk that leaves in each entry what is left under the horizon, and drops those where nothing is left
+-- a walk that leaves in each entry what is left under the horizon, and drops those if nothing is left
 module _ {F : Type 0} (h : ℕ) (T : F → Tuple → Vec Row → Bool → Vec Row → F → Type 0) (f : F)
     (each : (k : Tuple) (v : Vec Row) (b : Bool) (w : Vec Row) (g : F) → T f k v b w g → (w.items ≡ rows_left h v.items) × (b ≡ false → w.items ≡ []) × (g ≡ f)) where
   kept_listed : (g : F) → g ≡ f → (es kept : Entries) → RetainsPairs T g es kept → listed kept ≡ left_in h es
@@ -227,7 +227,7 @@ IsGrouped : List Version → Type 0
 IsGrouped [] = Unit {0}
 IsGrouped (v ∷ vs) = AllByRecursion (λ (u : Version). tuple_lt (tuple_of u.change) (tuple_of v.change) ≡ false) vs × IsGrouped vs
 
--- nothing of a tuple stands behind a later one
+-- nothing of a tuple stands after a later one
 none_behind : (t : Tuple) (vs : List Version) → AllByRecursion (λ (u : Version). tuple_lt t (tuple_of u.change) ≡ true) vs → of_tuple t vs ≡ []
 none_behind t [] later = refl
 none_behind t (u ∷ vs) later =

@@ -1,4 +1,4 @@
--- Versions that are listed tuple by tuple are in the order of tuples and places, where the places of each tuple rise.
+-- Versions that are listed tuple by tuple are in the order of tuples and places, if the places of each tuple rise.
 use Rattle.std.proofs.Common.{◌≡◌, ◌≤◌, ◌<◌, ◌+◌, ℕ, zero, suc, ◌==◌, Bool, true, false, cond, List, [], ◌∷◌, ◌++◌, length, slice_index_or, refl, sym, ◌∙◌, ap, subst, arith}
 use Rattle.std.specs.List.{AllByRecursion}
 use Rattle.std.specs.List.Sorted.{IsSorted, IsStrictlySortedBy}
@@ -77,14 +77,14 @@ rise_back : (vs us : List Version) → Rise (vs ++ us) → Rise us
 rise_back [] us rise = rise
 rise_back (v ∷ vs) us rise = rise_back vs us (rise_rest v (vs ++ us) rise)
 
--- ---- one entry, and those behind it
+-- ---- one entry, and those after it
 
 behind_rows : (t u : Tuple) (a : Row) (rows : List Row) (rest : List Version) → ghosts.cmp t u ≡ Less → (Follow rest → Follow (version_of t a ∷ rest))
     → Follow (versions_of u rows ++ rest) → Follow (version_of t a ∷ (versions_of u rows ++ rest))
 behind_rows t u a [] rest less next follow = next follow
 behind_rows t u a (b ∷ rows) rest less next follow = (later_tuple t u a b less, follow)
 
--- behind the versions of a tuple stand those of later tuples
+-- after the versions of a tuple stand those of later tuples
 behind : (t : Tuple) (a : Row) (es : Entries) → AllByRecursion (λ y. ghosts.cmp t y ≡ Less) (keys_of es) → Follow (listed es) → Follow (version_of t a ∷ listed es)
 behind t a [] above follow = tt
 behind t a ((u, h) ∷ es) above follow = behind_rows t u a h.items (listed es) above.0 (λ next. behind t a es above.1 next) follow

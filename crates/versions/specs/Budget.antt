@@ -1,4 +1,4 @@
--- What copies of tuples count for, where an answer may take so many bytes.
+-- What copies of tuples count for, if an answer may take so many bytes.
 use Rattle.std.specs.Prelude.{ℕ, ◌+◌, ◌*◌, List, length, sum_by}
 use Rattle.tuples.specs.declared.object.Object.{Object}
 use Rattle.tuples.specs.declared.tuple.Tuple.{Tuple}

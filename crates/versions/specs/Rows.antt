@@ -96,7 +96,7 @@ abbrev pub newest_under : ℕ → List Row → ℕ
 newest_under h [] = 0
 newest_under h (r ∷ rows) = if nat_le r.place h then max r.place (newest_under h rows) else newest_under h rows
 
--- the rows above the horizon, and the newest at or below it where that is a touch
+-- the rows above the horizon, and the newest at or below it if that is a touch
 abbrev pub stays : ℕ → ℕ → Row → Bool
 stays h newest r = nat_lt h r.place || (r.is_touch && nat_le newest r.place)
 

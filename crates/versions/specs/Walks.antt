@@ -18,6 +18,6 @@ Rise [] = Unit {0}
 Rise (v ∷ []) = Unit {0}
 Rise (v ∷ u ∷ vs) = (v.place ≤ u.place) × Rise (u ∷ vs)
 
--- where the places of each tuple rise, the versions are listed by tuple and then by place
+-- if the places of each tuple rise, the versions are listed by tuple and then by place
 abbrev pub IsInOrder : List Version → Type 0
 IsInOrder vs = ((t : Tuple) → Rise (of_tuple t vs)) → IsSorted version_cmp vs

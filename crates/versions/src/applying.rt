@@ -14,7 +14,7 @@ use std::alloc::{AllocError, Global};
 use std::collections::{BTreeMap, BTreeSet};
 use tuples::{Change, PackedByUser, Tuple};
 
-/// Adds the changes of a write at its place. Where memory is refused, nothing has changed.
+/// Adds the changes of a write at its place. If memory is refused, nothing has changed.
 pub(crate) fn apply(
     table: &mut BTreeMap<Tuple, Vec<Row>>,
     users: &mut BTreeSet<PackedByUser>,
@@ -36,7 +36,7 @@ pub(crate) fn apply(
     Ok(())
 }
 
-// Where memory is refused, so many of the first changes were added.
+// If memory is refused, so many of the first changes were added.
 fn add_changes(
     table: &mut BTreeMap<Tuple, Vec<Row>>,
     users: &mut BTreeSet<PackedByUser>,
@@ -82,7 +82,7 @@ fn take_back_changes(
     }
 }
 
-/// Adds the changes of these writes, each at its place. Where memory is refused, nothing has changed.
+/// Adds the changes of these writes, each at its place. If memory is refused, nothing has changed.
 pub(crate) fn apply_all(
     table: &mut BTreeMap<Tuple, Vec<Row>>,
     users: &mut BTreeSet<PackedByUser>,
@@ -103,7 +103,7 @@ pub(crate) fn apply_all(
     Ok(())
 }
 
-// Where memory is refused, so many of the first writes were applied.
+// If memory is refused, so many of the first writes were applied.
 fn apply_each(
     table: &mut BTreeMap<Tuple, Vec<Row>>,
     users: &mut BTreeSet<PackedByUser>,

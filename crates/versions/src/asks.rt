@@ -51,7 +51,7 @@ impl Asks for Userset {
     }
 }
 
-/// Whether the tuple has the relation, where one is given
+/// Whether the tuple has the relation, if one is given
 #[tactic(auto, using(crate::proofs::Equal::same_relation))]
 pub(crate) fn has_given(relation: &Option<Relation>, tuple: &Tuple) -> bool
     ensures { result ≡ has_relation relation.now tuple.now }
@@ -70,7 +70,7 @@ pub(crate) fn is_of(userset: &Userset, tuple: &Tuple) -> bool
     tuple.object == userset.object && tuple.relation == userset.relation
 }
 
-/// Whether a check of the user asks for the tuple, where it is one of the userset.
+/// Whether a check of the user asks for the tuple, if it is one of the userset.
 #[tactic(auto, using(crate::proofs::Equal::same_user))]
 pub(crate) fn is_asked(user: &User, tuple: &Tuple) -> bool
     ensures { result ≡ is_own_or_set user.now tuple.now }

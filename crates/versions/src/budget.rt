@@ -81,7 +81,7 @@ impl Budget {
         self.left == 0
     }
 
-    /// Counts the tuple. Where it counts for more than is left it is refused, as by memory, and nothing is left from then on.
+    /// Counts the tuple. If it counts for more than is left it is refused, as by memory, and nothing is left from then on.
     pub(crate) fn take(&mut self, tuple: &Tuple) -> Result<(), AllocError>
         ensures ok { OnOk result (self.new + weight tuple.now ≡ self.old) }
         ensures err { OnErr result ((self.old < weight tuple.now) × (self.new ≡ 0)) }

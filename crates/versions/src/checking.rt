@@ -46,7 +46,7 @@ pub(crate) fn asked_at<L: Ledger>(
     searched(table, alloc, place, userset, user, budget, steps)
 }
 
-// By one search for a plain user, and from there on; none where many other plain users stand between the user and the usersets.
+// By one search for a plain user, and from there on; none if many other plain users stand between the user and the usersets.
 fn nearby<L: Ledger>(
     table: &BTreeMap<Tuple, Vec<Row>>,
     alloc: Global,
@@ -105,7 +105,7 @@ fn searched<L: Ledger>(
     }
 }
 
-// The tuple where it is there, and then these.
+// The tuple if it is there, and then these.
 fn with_user<L: Ledger>(
     table: &BTreeMap<Tuple, Vec<Row>>,
     place: u64,

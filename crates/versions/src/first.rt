@@ -9,7 +9,7 @@ ghost use Rattle.versions.specs.Rows.{IsFirst, first_relation, is_set_of, lowest
 use std::alloc::{AllocError, Global};
 use tuples::{Id, Namespace, Object, Relation, Tuple, User, Userset};
 
-/// A tuple before which no tuple of the object stands, with this relation where one is given.
+/// A tuple before which no tuple of the object stands, with this relation if one is given.
 pub(crate) fn first_of(
     alloc: Global,
     object: &Object,

@@ -17,7 +17,7 @@ use std::collections::{BTreeMap, BTreeSet};
 use std::sync::ledger::Ledger;
 use tuples::{Namespace, PackedByUser, Relation, Tuple, User};
 
-/// Which tuples are asked for: those in a namespace that name a user, with a relation where one is given.
+/// Which tuples are asked for: those in a namespace that name a user, with a relation if one is given.
 #[derive(Clone, Copy)]
 pub(crate) struct OfUser<'a> {
     pub namespace: &'a Namespace,

@@ -15,7 +15,7 @@ use std::alloc::{AllocError, Global};
 use std::collections::{BTreeMap, BTreeSet};
 use tuples::{PackedByUser, Tuple};
 
-/// Adds versions of a tuple. Where memory is refused, nothing has changed.
+/// Adds versions of a tuple. If memory is refused, nothing has changed.
 pub(crate) fn add(
     table: &mut BTreeMap<Tuple, Vec<Row>>,
     users: &mut BTreeSet<PackedByUser>,

@@ -57,7 +57,7 @@ impl Versions {
         }
     }
 
-    /// Adds the changes of a write at its place. Where memory is refused, nothing has changed.
+    /// Adds the changes of a write at its place. If memory is refused, nothing has changed.
     pub fn apply(&mut self, place: u64, changes: &[Change]) -> Result<(), AllocError>
         ensures ok { OnOk result (AreAlike self.new (self.old ++ placed place changes.now)) }
         ensures err { OnErr result (self.new ≡ self.old) }
@@ -72,7 +72,7 @@ impl Versions {
         last_place(table::rows_of(&self.rows, tuple))
     }
 
-    /// Adds the changes of these writes, each at its place. Where memory is refused, nothing has changed.
+    /// Adds the changes of these writes, each at its place. If memory is refused, nothing has changed.
     pub fn apply_all(&mut self, writes: &[PlacedChanges]) -> Result<(), AllocError>
         ensures ok { OnOk result (AreAlike self.new (self.old ++ all_placed writes.now)) }
         ensures err { OnErr result (self.new ≡ self.old) }
@@ -177,7 +177,7 @@ pub fn read_alike()
 {}
 
 /// Above the horizon the newest version of a tuple lies at its last place in the log: `last` is that place, or it is no greater than the horizon
-/// where the log has not changed the tuple since.
+/// if the log has not changed the tuple since.
 pub fn newest_is_last()
     ensures { NewestIsLast }
 {}

@@ -149,9 +149,9 @@ module _ {D : Type 0} (state : D → State) (honest : D → Type 0) (moment : D 
 
   module _ (later : WriteView) (there : IsCancelledThere state honest moment left_since store shards old new slot was_cancelled v later) where
     by_stage : (w : Way) → v.holds.way ≡ w → (o : Option DecidedValue) → v.holds.decided ≡ o → (x : Option WriteValue) → v.write ≡ x → Goal later
-    by_stage onward way None none (Some write) has = subst Goal (sym (there.cancels.unbegun (record { way = way; decided = none; awaited = there.awaited; ended = there.ended }) (λ no. let both : Some write ≡ None = sym has ∙ no in cc)))
+    by_stage onward way None none (Some write) has = subst Goal (sym (there.cancels.unbegun (record { way = way; decided = none }) (λ no. let both : Some write ≡ None = sym has ∙ no in cc)))
         (ends_unbegun none)
-    by_stage onward way None none None begun = subst Goal (sym (there.cancels.begun (record { way = way; decided = none; awaited = there.awaited; ended = there.ended }) begun)) (goes_out_begun begun none)
+    by_stage onward way None none None begun = subst Goal (sym (there.cancels.begun (record { way = way; decided = none }) begun)) (goes_out_begun begun none)
     by_stage onward way (Some d) decided x has = subst Goal (sym (there.cancels.others (λ u. let both : None ≡ Some d = sym u.decided ∙ decided in cc)))
         (goes_on_still (λ none. let both : None ≡ Some d = sym none ∙ decided in absurd cc) there.ended)
     by_stage (outward met) way o decided x has = subst Goal (sym (there.cancels.others (λ u. let both : onward ≡ outward met = sym u.way ∙ way in cc)))

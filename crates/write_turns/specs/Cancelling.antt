@@ -15,7 +15,6 @@ use Rattle.write_turns.specs.Seen.{shown, shown_until}
 module _ {D : Type 0} (state : D → State) (honest : D → Type 0) (moment : D → ℕ) (left_since : D → ℕ → List ℕ → Type 0) (store shards : ℕ) where
   -- The flow in this slot was cancelled between two of its turns: `cancel` took it from v to later.
   pub record IsCancelledThere (old new : Store D) (slot : ℕ) (was_cancelled : Bool) (v later : WriteView) : Type 0 where
-    pub awaited : v.awaited ≡ None
     pub ended : v.ended ≡ None
     pub cancels : Cancels v later
     pub store_stays : IsUncalled old new

@@ -20,7 +20,7 @@ pub(crate) fn text_of_bytes(bytes: &[u8; BYTES]) -> [u8; CHARACTERS]
     }
 }
 
-/// The bytes that have the text; `None` where it is that of no so many bytes.
+/// The bytes that have the text; `None` if it is that of no so many bytes.
 pub(crate) fn bytes_of_text(text: &[u8]) -> Option<[u8; BYTES]>
     ensures { MatchOption result (IsTextOfNone text.now) (λ bytes. (decode_of standard text.now ≡ Ok bytes) × (text.now ≡ encode_of standard bytes)) }
 {

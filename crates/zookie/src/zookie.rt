@@ -21,8 +21,8 @@ impl Zookie {
         text_of_bytes(&bytes_of(self))
     }
 
-    /// The place of this store that has the text. It is refused with `BadZookie` where the text is that of no token,
-    /// and else with `WrongStore` where it is another store's.
+    /// The place of this store that has the text. It is refused with `BadZookie` if the text is that of no token,
+    /// and else with `WrongStore` if it is another store's.
     pub fn decode(text: &[u8], store: u64) -> Result<Zookie, Refusal>
         ensures ok { IfOk result (λ z. (z.store ≡ store) × (text.now ≡ zookie_text z.store z.place)) }
         ensures bad { IsErrOf result Refusal.BadZookie ↔ IsNoZookie text.now }

@@ -41,7 +41,7 @@ impl<C> AcceptorPass<C> {
     }
 }
 
-/// A worker's pass. Contracts see its queue, how many passes are gathered in it, the numbers that they took, and how many connections were put in all, where the
+/// A worker's pass. Contracts see its queue, how many passes are gathered in it, the numbers that they took, and how many connections were put in all, if the
 /// acceptor's is among them.
 #[derive(Drop)]
 pub struct WorkerPass<C> {

@@ -115,7 +115,7 @@ fn take_all<R: Wait>(
     worker
 }
 
-// Counts one take of a number, where it came with its own connection.
+// Counts one take of a number, if it came with its own connection.
 fn count(times: &[AtomicU64], number: u64, connection: u64) {
     if connection / 3 == number
         && connection % 3 == 0

@@ -139,7 +139,13 @@ impl Listed {
 }
 
 impl Answers for Listed {
+    ghost store = { 1 };
+
     ghost gives = { λ a request reply b. Unit {0} };
+
+    fn store_id(&self) -> u64 {
+        1
+    }
 
     fn write(&mut self, write: Write) -> Result<Written, Refusal> {
         self.write_lent(&write)

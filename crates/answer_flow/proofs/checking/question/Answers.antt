@@ -1,4 +1,4 @@
--- Where there is no first, none waits.
+-- If there is no first, none waits.
 use Rattle.std.proofs.Common.{◌∙◌, ap, sym, option_copied}
 use Rattle.answer_flow.proofs.Waiting.{none_first}
 use Rattle.answer_flow.proofs.checking.question.Goals as goal

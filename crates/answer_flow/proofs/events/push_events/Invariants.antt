@@ -1,4 +1,4 @@
--- The events of the changes so far stand behind those that were there.
+-- The events of the changes so far stand after those that were there.
 use Rattle.std.proofs.Common.{◌≡◌, ◌++◌, take, filter}
 use Rattle.tuples.specs.Versions.{placed}
 use Rattle.tuples.specs.Watching.{is_among}

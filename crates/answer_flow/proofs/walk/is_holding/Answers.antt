@@ -1,4 +1,4 @@
--- A row is the one that is looked for where it is of the user and of the userset.
+-- A row is the one that is looked for if it is of the user and of the userset.
 use Rattle.std.proofs.Common.{◌≡◌, ◌∙◌, ◌↔◌, true, false, true≢false, IsTrue, sym, subst, rules}
 use Rattle.std.specs.Ordering.{is_eq}
 use Rattle.tuples.specs.declared.user.User.{User}

@@ -1,4 +1,4 @@
--- A row is of the userset exactly where its first two parts are.
+-- A row is of the userset exactly if its first two parts are.
 use Rattle.std.proofs.Common.{◌≡◌, ◌∙◌, true, false, true≢false, sym, rules}
 use Rattle.std.specs.Ordering.{is_eq}
 use Rattle.tuples.specs.Order.{name_cmp, object_cmp}

@@ -1,4 +1,4 @@
--- Each shard takes two of the devices, and the others rest for those behind it.
+-- Each shard takes two of the devices, and the others rest for those after it.
 use Rattle.std.proofs.Common.{All, ◌≡◌, ◌≤◌, ◌+◌, ◌*◌}
 use Rattle.std.specs.Vec.{vec_capacity, vec_len}
 use mathlib.Core.List.{IsPrefix}

@@ -13,7 +13,7 @@ found_in devices state = found_coordinator state devices
 abbrev rests_in : {D : Type 0} → ℕ → List Entry → List D → (D → State) → Type 0
 rests_in shards first devices state = IsAtRest state (λ d. Unit {0}) shards first devices
 
--- What is said is said of the list, where the devices rest at it as they were found.
+-- What is said is said of the list, if the devices rest at it as they were found.
 abbrev pub ghosts-serve_over : goal.ghosts-serve_over
 ghosts-serve_over g a = record {
   log = a.parts.words;

@@ -1,11 +1,12 @@
-use Rattle.std.proofs.Common.{◌≡◌, ◌+◌, All, vec_len}
+use Rattle.std.proofs.Common.{◌≡◌, ◌+◌, All, None, vec_len}
+use Rattle.std.specs.Vec.Iter.{into_iter_len}
 use Rattle.serving.proofs.serving.equipped.Given as goal
 
-abbrev pub invariant-loop : goal.invariant-loop
-invariant-loop g l = record {
-  queue : All (λ w. w.queue ≡ l.hall.queue) l.passes.items;
-  passes : vec_len l.passes + l.counter ≡ vec_len l.initial.passes;
-  workers : vec_len l.workers + l.counter ≡ vec_len l.initial.workers;
-  made : vec_len l.equipped ≡ l.counter;
-  bells : vec_len l.bells ≡ vec_len l.initial.bells + l.counter;
+abbrev pub invariant-loop-answers : goal.invariant-loop-answers
+invariant-loop-answers g l = record {
+  own : All (λ w. (w.queue ≡ l.hall.queue) × (w.passes ≡ 1) × (w.end ≡ None)) l.passes.items;
+  count : vec_len l.passes ≡ into_iter_len l.answers-iterator;
+  made : vec_len l.equipped + into_iter_len l.answers-iterator ≡ vec_len l.fn.workers;
+  hall : All (λ worker. worker.hall.now.queue ≡ l.hall.queue) l.equipped.items;
+  bells : vec_len l.bells + into_iter_len l.answers-iterator ≡ vec_len l.initial.bells + vec_len l.fn.workers;
 }

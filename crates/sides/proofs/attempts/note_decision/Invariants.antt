@@ -1,5 +1,5 @@
-use Rattle.sides.proofs.Words.{tried_by}
+use Rattle.sides.specs.CoordinatorSides.{tried_by, write_of}
 use Rattle.sides.proofs.attempts.note_decision.Given as goal
 
 abbrev pub ghosts-announce : goal.ghosts-announce
-ghosts-announce a = record { added = tried_by a.intent.now.value.write a.reply.now }
+ghosts-announce a = record { added = tried_by (write_of a.call.now.value) a.reply.now }

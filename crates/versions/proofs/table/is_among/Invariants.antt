@@ -3,6 +3,6 @@ use Rattle.std.specs.Prelude.{is_some}
 use Rattle.versions.specs.Rows.{found}
 use Rattle.versions.proofs.table.is_among.Given as goal
 
--- the tuple is found in the rest where it is found at all
+-- the tuple is found in the rest if it is found at all
 abbrev pub invariant-loop-tuple : goal.invariant-loop-tuple
 invariant-loop-tuple l = is_some (found l.named l.tuple-iterator) ≡ is_some (found l.named l.table.entries)

@@ -12,11 +12,11 @@ use Rattle.locked.proofs.store.Store.run_care.Goals as goal
 pub loop-preserved : goal.loop-preserved
 loop-preserved g c =
     let was = c.loop.invariant in
-    let turns = c.spend-after.ensures.turns in
+    let turns = c.turn-after.ensures.turns in
     record {
       runs = (tt, tt);
-      of = subst (λ (p : Progress CareFlow CareEnd). IfNext p (IsThere g.B.Room.shards)) c.in-Next.is c.spend-after.ensures.of;
-      later = later_on c.args.caller.now.pass c.loop.caller.pass c.spend-after.new.caller.pass was.later turns.serves.later;
-      held = λ h. subst (λ (p : Progress CareFlow CareEnd). IfNext p (IsCareOf c.spend-after.new.caller.pass.seen c.spend-after.new.caller.pass.horizon)) c.in-Next.is
-          (care_goes_on g.B.Room.rests g.B.Room.shards c.loop.caller.pass c.spend-after.new.caller.pass c.loop.told c.spend-after.new.told c.loop.flow c.spend-after.result.0 (was.held h) turns h);
+      of = subst (λ (p : Progress CareFlow CareEnd). IfNext p (IsThere g.B.Room.shards)) c.in-Next.is c.turn-after.ensures.of;
+      later = later_on c.args.caller.now.pass c.loop.caller.pass c.turn-after.new.caller.pass was.later turns.serves.later;
+      held = λ h. subst (λ (p : Progress CareFlow CareEnd). IfNext p (IsCareOf c.turn-after.new.caller.pass.seen c.turn-after.new.caller.pass.horizon)) c.in-Next.is
+          (care_goes_on g.B.Room.rests g.B.Room.shards c.loop.caller.pass c.turn-after.new.caller.pass c.loop.told c.turn-after.new.told c.loop.flow c.turn-after.result.0 (was.held h) turns h);
     }

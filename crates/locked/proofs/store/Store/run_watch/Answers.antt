@@ -10,13 +10,13 @@ loop-init g c = record { runs = (tt, tt); later = later_self c.args.caller.now.p
 pub loop-preserved : goal.loop-preserved
 loop-preserved g c =
     let was = c.loop.invariant in
-    let turns = c.spend-after.ensures.turns in
+    let turns = c.turn-after.ensures.turns in
     let before = length c.args.caller.now.pass.seen in
     record {
       runs = (tt, tt);
-      later = later_on c.args.caller.now.pass c.loop.caller.pass c.spend-after.new.caller.pass was.later turns.serves.later;
-      on = subst (WatchGoesOn g.B.Room.rests before c.spend-after.new.caller.pass c.spend-after.new.told c.args.flow.cursor c.args.flow.limit c.args.flow.namespaces) c.in-Next.is
-          (watch_goes_on g.B.Room.rests g.B.Room.shards before c.loop.caller.pass c.spend-after.new.caller.pass c.loop.told c.spend-after.new.told c.args.flow.cursor c.args.flow.limit c.args.flow.namespaces c.loop.flow c.spend-after.result.0 c.requires.few
+      later = later_on c.args.caller.now.pass c.loop.caller.pass c.turn-after.new.caller.pass was.later turns.serves.later;
+      on = subst (WatchGoesOn g.B.Room.rests before c.turn-after.new.caller.pass c.turn-after.new.told c.args.flow.cursor c.args.flow.limit c.args.flow.namespaces) c.in-Next.is
+          (watch_goes_on g.B.Room.rests g.B.Room.shards before c.loop.caller.pass c.turn-after.new.caller.pass c.loop.told c.turn-after.new.told c.args.flow.cursor c.args.flow.limit c.args.flow.namespaces c.loop.flow c.turn-after.result.0 c.requires.few
           (prefix_length c.args.caller.now.pass.seen c.loop.caller.pass.seen was.later.seen) was.on turns);
     }
 
@@ -24,6 +24,6 @@ pub returns-in-Ended-clause-held : goal.returns-in-Ended-clause-held
 returns-in-Ended-clause-held g c =
     let was = c.loop.invariant in
     let before = length c.args.caller.now.pass.seen in
-    let on = subst (WatchGoesOn g.B.Room.rests before c.spend-after.new.caller.pass c.spend-after.new.told c.args.flow.cursor c.args.flow.limit c.args.flow.namespaces) c.in-Ended.is
-    (watch_goes_on g.B.Room.rests g.B.Room.shards before c.loop.caller.pass c.spend-after.new.caller.pass c.loop.told c.spend-after.new.told c.args.flow.cursor c.args.flow.limit c.args.flow.namespaces c.loop.flow c.spend-after.result.0 c.requires.few
-    (prefix_length c.args.caller.now.pass.seen c.loop.caller.pass.seen was.later.seen) was.on c.spend-after.ensures.turns) in on.held
+    let on = subst (WatchGoesOn g.B.Room.rests before c.turn-after.new.caller.pass c.turn-after.new.told c.args.flow.cursor c.args.flow.limit c.args.flow.namespaces) c.in-Ended.is
+    (watch_goes_on g.B.Room.rests g.B.Room.shards before c.loop.caller.pass c.turn-after.new.caller.pass c.loop.told c.turn-after.new.told c.args.flow.cursor c.args.flow.limit c.args.flow.namespaces c.loop.flow c.turn-after.result.0 c.requires.few
+    (prefix_length c.args.caller.now.pass.seen c.loop.caller.pass.seen was.later.seen) was.on c.turn-after.ensures.turns) in on.held

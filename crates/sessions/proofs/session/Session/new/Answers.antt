@@ -14,9 +14,9 @@ invariant_of-result g c =
       stands = ∣ (
         c.args.answers,
         (
-          begins c.args.store g.A.Answers.gives c.args.answers m.line (unsent m.waiting) c.args.answers (all_read c.new-read.result.items) (all_written c.new-written.result.items) (left_of m.block) m.phase
+          begins c.store_id-store.result g.A.Answers.gives c.args.answers m.line (unsent m.waiting) c.args.answers (all_read c.new-read.result.items) (all_written c.new-written.result.items) (left_of m.block) m.phase
               (ap all_read c.new-read.ensures) (ap all_written c.new-written.ensures) is_new.0 (ap left_of is_new.1) empty is_new.4,
-          bounded_none c.args.store m.waiting.bytes.items is_new.2,
+          bounded_none c.store_id-store.result m.waiting.bytes.items is_new.2,
         ),
         first_of (cc, search rules),
       ) ∣₁;

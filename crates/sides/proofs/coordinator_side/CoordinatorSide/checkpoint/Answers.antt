@@ -14,6 +14,6 @@ invariant_of-self g c = let inv = c.self.invariant in let same = c.meet.ensures.
   subst (IsSoundThere g.D.Device.state g.D.Device.honest g.B.Room.store g.B.Room.shards) (sym c.join.ensures.node) (log_stays_sound g.D.Device.state g.D.Device.honest g.B.Room.store g.B.Room.shards g.D.Device.moment g.D.Device.left_since Checkpoint c.self.inside.node c.ask_coordinator-reply.new.node c.ask_coordinator-reply.result inv.2 c.ask_coordinator-reply.ensures.answered),
   λ rests. subst (λ (k : Known Entry). IsTiedThere g.D.Device.state g.D.Device.honest g.B.Room.store g.B.Room.shards c.join.new.node k.seen k.horizon c.self.inside.attempts.seen) (sym same)
       (c.join.ensures.tied c.self.inside.attempts.seen
-      (checkpoint_may_join g.D.Device.state g.D.Device.honest g.D.Device.moment g.D.Device.left_since g.B.Room.store g.B.Room.shards g.met.D.Device.counts_now c.self.inside.node c.ask_coordinator-reply.new.node c.ask_coordinator-reply.result c.self.inside.log.seen c.self.inside.log.horizon c.self.inside.attempts.seen (inv.3 rests) c.ask_coordinator-reply.ensures.answered)),
+      (checkpoint_may_join g.D.Device.state g.D.Device.honest g.D.Device.moment g.D.Device.left_since g.B.Room.store g.B.Room.shards c.self.inside.log.seen c.self.inside.log.horizon c.self.inside.attempts.seen g.met.D.Device.counts_now c.self.inside.node c.ask_coordinator-reply.new.node c.ask_coordinator-reply.result (inv.3 rests) c.ask_coordinator-reply.ensures.answered)),
   inv.4,
 )

@@ -1,0 +1,4 @@
+pub mod Agreeing
+pub mod Coordinators
+pub mod Owning
+pub mod Shards

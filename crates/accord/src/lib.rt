@@ -1,0 +1,23 @@
+//! What a stop may leave of all nodes at each moment, and who began which write: words and laws.
+//!
+//! Keeps: nothing at run time; each law is the contract of a function with an empty body.
+//! Callers rely on: whichever node takes one of these steps, all nodes go on to agree on one legal list. Each write above what a shard has learned is in doubt
+//! there, and what a shard has voted for stays prepared until it is decided.
+//!
+//! Start at `specs/Agreeing.antt`. No program and no other law uses it yet.
+#![tactic(auto)]
+
+mod agreeing_laws;
+mod fact;
+mod goods;
+mod owning_laws;
+mod parts;
+
+pub use agreeing_laws::{
+    batches_are_learnable, decisions_agree, landings_agree, openings_agree, prepares_agree,
+    unmade_nodes_agree, votes_stay_at_decisions, votes_stay_at_prepares,
+};
+pub use fact::Fact;
+pub use goods::Begun;
+pub use owning_laws::{owners_decide, undecided_is_unlisted};
+pub use parts::{LogPart, ShardPart};

@@ -1,0 +1,5 @@
+pub mod Held
+mod Counting
+mod Keeping
+mod Seats
+mod SmallStates

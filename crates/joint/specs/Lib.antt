@@ -1,0 +1,4 @@
+pub mod Examples
+pub mod Held
+pub mod Views
+pub mod Whole
