@@ -4,8 +4,8 @@ use Rattle.std.specs.Global.{Vec}
 use Rattle.std.proofs.lemmas.Bool.{cases_Bool, eqb-true}
 use Rattle.std.proofs.lemmas.List.Elements.{Contains-append_left, Contains-append_right}
 use Rattle.std.proofs.lemmas.List.Sorted.{Contains-permutation}
-use Rattle.call_turns.proofs.Standing.{shard_is_seen, shard_is_up, some_coordinator}
-use Rattle.call_turns.specs.StoreCalls.{IsNode}
+use Rattle.flow_turns.proofs.Standing.{shard_is_seen, shard_is_up, some_coordinator}
+use Rattle.flow_turns.specs.StoreCalls.{IsNode}
 use Rattle.calls.specs.Rows.{RowsOf}
 use Rattle.calls.specs.Views as views
 use Rattle.calls.specs.Views.{NodeView}

@@ -1,7 +1,7 @@
 -- A flow over a store that stands, from its beginning to its answer.
 use Rattle.std.proofs.Common.{◌≡◌, ◌⊎◌, inl, inr, ⊎_elim, ◌==◌, ℕ, true≢false, false, List, [], ◌∷◌, ◌++◌, Contains, Option, Some, None, MatchOption, slice_get, refl, sym, ◌∙◌, ap, subst, arith, eq-eqb, if◌then◌else◌}
 use Rattle.std.proofs.lemmas.List.Elements.{Contains-push_cases}
-use Rattle.call_turns.proofs.Slots.{at_ended, at_replaced, found_at}
+use Rattle.flow_turns.proofs.Slots.{at_ended, at_replaced, found_at}
 use Rattle.cluster.specs.Flows.{next_name_of}
 use Rattle.cluster.specs.Steps.{Takes}
 use Rattle.cluster.specs.Worlds.{WorldView, flow_at as flow_in}

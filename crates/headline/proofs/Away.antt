@@ -10,10 +10,10 @@ use Rattle.commit_flow.specs.Views.{ticket_value}
 use Rattle.commit_flow.specs.Writing.{AsksShard}
 use Rattle.commit_flow.specs.WriteHolds.{HeldTicket}
 use Rattle.stores.specs.Held.{IsRightTicket, own_write}
-use Rattle.call_turns.proofs.Made.{IsQuietlyMade, still_made}
-use Rattle.write_turns.specs.Seen.{shown}
-use Rattle.write_turns.proofs.Going.{IsFlow, changes, conditions, flow_there, right}
-use Rattle.write_turns.proofs.Leaving.{dropped}
+use Rattle.flow_turns.proofs.Made.{IsQuietlyMade, still_made}
+use Rattle.flow_turns.specs.WritesSeen.{shown}
+use Rattle.flow_turns.proofs.Going.{IsFlow, changes, conditions, flow_there, right}
+use Rattle.flow_turns.proofs.Leaving.{dropped}
 use Rattle.headline.proofs.Behind.{behind, same_at, same_devices, same_memory, shows_node, slot_turns, with_slot}
 use Rattle.headline.proofs.Lifts.{Stays}
 use Rattle.headline.proofs.Nodes.{node_there}

@@ -7,9 +7,9 @@ use Rattle.commit_flow.specs.Cancelling as writes
 use Rattle.commit_flow.specs.Views.{view_ended}
 use Rattle.stores.specs.Moments.{is_write}
 use Rattle.turns.specs.Runs as runs
-use Rattle.call_turns.proofs.Cancels.{cancelled_flows_end}
-use Rattle.write_turns.specs.Seen.{shown}
-use Rattle.write_turns.proofs.Cancel.{cancels_run}
+use Rattle.flow_turns.proofs.Cancels.{cancelled_flows_end}
+use Rattle.flow_turns.specs.WritesSeen.{shown}
+use Rattle.flow_turns.proofs.WriteCancels.{cancels_run}
 use Rattle.cluster.specs.Cancels.{Cancels}
 use Rattle.cluster.specs.Steps.{CancelsIn}
 use Rattle.cluster.specs.Worlds.{Puts}

@@ -16,9 +16,9 @@ use Rattle.care_flow.specs.declared.end.CareEnd.TheVariants as care_ends
 use Rattle.care_flow.proofs.Fitting.{there_given, there_next}
 use Rattle.laws.specs.Nodes as nodes
 use Rattle.stores.specs.Stores.{FlowView, Store}
-use Rattle.call_turns.specs.StoreCalls.{called}
-use Rattle.care_turns.specs.CareTurns.{in_slot, shows as shows_care, tells}
-use Rattle.care_turns.proofs.AnyCare.{cares_turn}
+use Rattle.flow_turns.specs.StoreCalls.{called}
+use Rattle.flow_turns.specs.CareTurns.{in_slot, shows as shows_care, tells}
+use Rattle.flow_turns.proofs.AnyCare.{cares_turn}
 use Rattle.cluster.specs.Ends.{TellsCare}
 use Rattle.cluster.specs.Steps.{GoesOn, IsMade, LeavesSlot}
 use Rattle.cluster.specs.Turns.{TurnsCare}

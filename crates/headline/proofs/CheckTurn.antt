@@ -10,9 +10,9 @@ use Rattle.answer_flow.specs.CheckViews.{CheckCallValue, CheckEnding, CheckFlowV
 use Rattle.answer_flow.specs.declared.check_phase.CheckDone.{CheckDone}
 use Rattle.stores.specs.Flows.{Asked, IsAsked, checking}
 use Rattle.stores.specs.Stores.{FlowView, Store}
-use Rattle.answer_turns.specs.AnswerTurns.{shown_answer}
-use Rattle.answer_turns.specs.CheckTurns.{check_in_slot, check_of, check_tells}
-use Rattle.answer_turns.proofs.ChecksTurn.{checks_turn}
+use Rattle.flow_turns.specs.AnswerTurns.{shown_answer}
+use Rattle.flow_turns.specs.CheckTurns.{check_in_slot, check_of, check_tells}
+use Rattle.flow_turns.proofs.ChecksTurn.{checks_turn}
 use Rattle.cluster.specs.Ends.{TellsCheck}
 use Rattle.answer_flow.specs.Running.{GivesCheck}
 use Rattle.cluster.specs.Steps.{GoesOn, IsMade, LeavesSlot}

@@ -8,7 +8,7 @@ use Rattle.stores.specs.Flows.{collecting, flushing, learning, raising, resolvin
 use Rattle.stores.specs.Held.{IsRight}
 use Rattle.stores.specs.Moments.{flow_at}
 use Rattle.turns.specs.Runs.{Event}
-use Rattle.call_turns.proofs.Slots.{at_ended, at_replaced}
+use Rattle.flow_turns.proofs.Slots.{at_ended, at_replaced}
 use Rattle.headline.specs.PastWrites.{CancelledWritesArePast, RefusedWritesArePast}
 use Rattle.headline.proofs.PastWrites.{coordinator_stays, given_by_it, more_given, no_value, quiet_on}
 use Rattle.tuples.proofs.Lists.{first_or_later}

@@ -4,9 +4,9 @@ use Rattle.std.proofs.lemmas.Bool.{cases_eq}
 use Rattle.std.proofs.lemmas.List.{length-set}
 use Rattle.headline.proofs.Words.{Answered, Damaged, Flow, FlowView, IsCalled, IsNamed, IsNode, IsShownFlow, IsShownSlot, IsThere, Keeps, KeepsMemory, Moment, NodeCall, NodeName, NodeView, Ran, Refuses, Reply, Shows, SlotTurns, StandsOver, State, Store, Told, Turn, What, WorldView, all_told, called, coordinator, events_of, flow_at, index_of, named, node_at, node_of, shard, turn}
 use Rattle.calls.specs.Views as views
-use Rattle.call_turns.specs.StoreTurns.{TurnRuns}
-use Rattle.call_turns.proofs.Fails.{failed_calls_have_cause}
-use Rattle.call_turns.proofs.Belongs.{is_node_of}
+use Rattle.flow_turns.specs.StoreTurns.{TurnRuns}
+use Rattle.flow_turns.proofs.Fails.{failed_calls_have_cause}
+use Rattle.flow_turns.proofs.Belongs.{is_node_of}
 use Rattle.cluster.specs.Nodes.{AnsweredBy, Called}
 use Rattle.headline.proofs.Behind.{at_slot, behind, off_slot, same_at, same_devices, same_memory, shows_node, slot_turns, with_slot}
 use Rattle.headline.proofs.Nodes.{IsPut, is_put, named_called, node_there}

@@ -12,9 +12,9 @@ use Rattle.stores.specs.Flows.{Asked, IsAsked, reading}
 use Rattle.stores.specs.Replies.{selected}
 use Rattle.stores.specs.Stores.{FlowView, Store}
 use Rattle.turns.specs.Runs.{answered}
-use Rattle.answer_turns.specs.AnswerTurns.{shown_answer}
-use Rattle.answer_turns.specs.ReadTurns.{read_in_slot, read_of, read_tells}
-use Rattle.answer_turns.proofs.ReadsTurn.{reads_turn}
+use Rattle.flow_turns.specs.AnswerTurns.{shown_answer}
+use Rattle.flow_turns.specs.ReadTurns.{read_in_slot, read_of, read_tells}
+use Rattle.flow_turns.proofs.ReadsTurn.{reads_turn}
 use Rattle.cluster.specs.Ends.{TellsRead}
 use Rattle.answer_flow.specs.Running.{GivesRead}
 use Rattle.cluster.specs.Steps.{GoesOn, IsMade, LeavesSlot}

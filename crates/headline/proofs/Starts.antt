@@ -12,9 +12,9 @@ use Rattle.names.specs.declared.care.Care.TheVariants as any_care
 use Rattle.tuples.specs.Checking.{userset_of}
 use Rattle.stores.specs.Flows.{IsFreshness}
 use Rattle.turns.specs.Runs as runs
-use Rattle.call_turns.specs.StoreCalls.{name_of}
-use Rattle.call_turns.proofs.FullStores.{full_stores_refuse}
-use Rattle.call_turns.proofs.Starts.{flows_start}
+use Rattle.flow_turns.specs.StoreCalls.{name_of}
+use Rattle.flow_turns.proofs.FullStores.{full_stores_refuse}
+use Rattle.flow_turns.proofs.Starts.{flows_start}
 use Rattle.cluster.specs.Begun.{IsFresh, IsInLimits, IsNodeThere, MayCare, begun_for, caring_for}
 use Rattle.cluster.specs.Steps.{Begins}
 use Rattle.cluster.specs.declared.event.What.TheVariants.{Refused}

@@ -11,7 +11,7 @@ use Rattle.calls.specs.declared.call.CoordinatorCall.TheVariants.{Begin, Heads, 
 use Rattle.calls.specs.declared.reply.CoordinatorReply.{CoordinatorReply}
 use Rattle.calls.specs.declared.reply.CoordinatorReply.TheVariants as told
 use Rattle.calls.proofs.Belonging.{shard_stays}
-use Rattle.call_turns.proofs.Standing.{runs_now}
+use Rattle.flow_turns.proofs.Standing.{runs_now}
 
 module _ {D : Type 0} (state : D → State) (honest : D → Type 0) (moment : D → ℕ) (left_since : D → ℕ → List ℕ → Type 0) where
   abbrev me_of : CoordinatorView D → Identity

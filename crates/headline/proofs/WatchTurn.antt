@@ -11,8 +11,8 @@ use Rattle.stores.specs.Flows.{Asked, IsAsked, watching}
 use Rattle.stores.specs.Replies.{listed}
 use Rattle.stores.specs.Stores.{FlowView, Store}
 use Rattle.turns.specs.Runs.{answered}
-use Rattle.answer_turns.specs.AnswerTurns.{asked_of, shown_answer, watch_in_slot, watch_tells}
-use Rattle.answer_turns.proofs.Watches.{watches_turn}
+use Rattle.flow_turns.specs.AnswerTurns.{asked_of, shown_answer, watch_in_slot, watch_tells}
+use Rattle.flow_turns.proofs.Watches.{watches_turn}
 use Rattle.cluster.specs.Ends.{TellsWatch}
 use Rattle.answer_flow.specs.Running.{GivesWatch}
 use Rattle.cluster.specs.Steps.{GoesOn, IsMade, LeavesSlot}

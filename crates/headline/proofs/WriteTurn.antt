@@ -7,8 +7,8 @@ use Rattle.commit_flow.specs.Flows.{WriteCallValue, WriteFlowValue, seen_after, 
 use Rattle.commit_flow.specs.Running.{GivesWrite}
 use Rattle.commit_flow.specs.declared.end.WriteEnd.TheVariants as write_ends
 use Rattle.turns.specs.SeamLaws.{told_unless}
-use Rattle.write_turns.specs.Seen.{shown, told_end}
-use Rattle.write_turns.proofs.All.{all_turn}
+use Rattle.flow_turns.specs.WritesSeen.{shown, told_end}
+use Rattle.flow_turns.proofs.AllWrites.{all_turn}
 use Rattle.cluster.specs.Ends.{TellsWrite}
 use Rattle.cluster.specs.Steps.{GoesOn, IsMade, LeavesSlot, TellsWriting, unless, write_of}
 use Rattle.cluster.specs.Turns.{TurnsWrite}

@@ -9,12 +9,12 @@ use Rattle.commit_flow.specs.Flows.{seen_of}
 use Rattle.laws.specs.Nodes.{NodeName, coordinator, shard}
 use Rattle.stores.specs.Flows.{IsAsked, checking, reading, watching}
 use Rattle.stores.specs.Stores.{FlowView, Store}
-use Rattle.call_turns.specs.StoreCalls.{IsNode}
-use Rattle.write_turns.specs.Seen as writes
-use Rattle.care_turns.specs.CareTurns.{shows}
-use Rattle.answer_turns.specs.AnswerTurns.{asked_of, shown_answer}
-use Rattle.answer_turns.specs.CheckTurns.{check_of}
-use Rattle.answer_turns.specs.ReadTurns.{read_of}
+use Rattle.flow_turns.specs.StoreCalls.{IsNode}
+use Rattle.flow_turns.specs.WritesSeen as writes
+use Rattle.flow_turns.specs.CareTurns.{shows}
+use Rattle.flow_turns.specs.AnswerTurns.{asked_of, shown_answer}
+use Rattle.flow_turns.specs.CheckTurns.{check_of}
+use Rattle.flow_turns.specs.ReadTurns.{read_of}
 use Rattle.cluster.specs.declared.flow.Flow.{Flow}
 use Rattle.cluster.specs.declared.flow.Flow.TheVariants.{Write, Read, Check, Watch, Care}
 use Rattle.cluster.specs.Worlds.{WorldView, flow_at, node_at}

@@ -10,7 +10,7 @@ use Rattle.stores.specs.Flows.{Asked, to_check, to_collect, to_flush, to_learn, 
 use Rattle.stores.specs.Replies as replies
 use Rattle.turns.specs.Runs as runs
 use Rattle.turns.specs.Runs.{Told, answered, began, came_up, goes_on, refuses}
-use Rattle.call_turns.specs.StoreCalls.{name_of}
+use Rattle.flow_turns.specs.StoreCalls.{name_of}
 use Rattle.cluster.specs.declared.event.Answer.{Answer}
 use Rattle.cluster.specs.declared.event.Answer.TheVariants.{Checked, Done, Listed, Resolved, Selected, Wrote}
 use Rattle.cluster.specs.declared.event.Event.{Event}

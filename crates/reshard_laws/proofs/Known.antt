@@ -3,8 +3,8 @@ use Rattle.std.proofs.Common.{◌≡◌, ⊎_elim, ◌≤◌, ◌<◌, ℕ, zero
 use Rattle.std.specs.List.Sorted.{IsPermutation}
 use Rattle.std.proofs.lemmas.Bool.{cases_Bool}
 use Rattle.std.proofs.lemmas.List.Sorted.{IsPermutation-append, IsPermutation-refl, IsPermutation-sym, IsPermutation-trans}
-use Rattle.call_turns.proofs.Standing.{is_seen, runs_now, shard_is_seen, shard_is_up}
-use Rattle.call_turns.specs.StoreCalls.{IsNode}
+use Rattle.flow_turns.proofs.Standing.{is_seen, runs_now, shard_is_seen, shard_is_up}
+use Rattle.flow_turns.specs.StoreCalls.{IsNode}
 use Rattle.calls.specs.Carrying.{Reaches}
 use Rattle.calls.specs.Rows.{KnownOf}
 use Rattle.calls.specs.Views as views

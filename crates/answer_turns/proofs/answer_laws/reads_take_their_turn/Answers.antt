@@ -1,5 +1,0 @@
-use Rattle.answer_turns.proofs.ReadsTurn.{reads_turn}
-use Rattle.answer_turns.proofs.answer_laws.reads_take_their_turn.Goals as goal
-
-pub returns : goal.returns
-returns g c = λ store shards. reads_turn g.D.Device.state g.D.Device.honest g.D.Device.moment g.D.Device.left_since g.met.D.Device.counts_now g.met.D.Device.only_now store shards

@@ -1,3 +1,0 @@
-pub mod AnswerTurns
-pub mod ReadTurns
-pub mod CheckTurns

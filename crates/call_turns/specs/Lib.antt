@@ -1,4 +1,0 @@
-pub mod StoreCalls
-pub mod StoreTurns
-pub mod CallLaws
-pub mod Steps

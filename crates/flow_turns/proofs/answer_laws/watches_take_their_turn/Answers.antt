@@ -1,0 +1,5 @@
+use Rattle.flow_turns.proofs.Watches.{watches_turn}
+use Rattle.flow_turns.proofs.answer_laws.watches_take_their_turn.Goals as goal
+
+pub returns : goal.returns
+returns g c = λ store shards. watches_turn g.D.Device.state g.D.Device.honest g.D.Device.moment g.D.Device.left_since g.met.D.Device.counts_now g.met.D.Device.only_now store shards

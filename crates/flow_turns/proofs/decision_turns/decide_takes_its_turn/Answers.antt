@@ -1,0 +1,5 @@
+use Rattle.flow_turns.proofs.Deciding.{decides_turn}
+use Rattle.flow_turns.proofs.decision_turns.decide_takes_its_turn.Goals as goal
+
+pub returns : goal.returns
+returns g c = λ store shards intent votes. decides_turn g.D.Device.state g.D.Device.honest g.D.Device.moment g.D.Device.left_since g.met.D.Device.counts_now g.met.D.Device.only_now store shards intent votes

@@ -1,0 +1,11 @@
+pub mod StoreCalls
+pub mod StoreTurns
+pub mod CallLaws
+pub mod Steps
+pub mod CareTurns
+pub mod WritesSeen
+pub mod WriteTurns
+pub mod WriteCancels
+pub mod AnswerTurns
+pub mod ReadTurns
+pub mod CheckTurns

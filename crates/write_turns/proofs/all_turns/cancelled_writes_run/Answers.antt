@@ -1,5 +1,0 @@
-use Rattle.write_turns.proofs.Cancel.{cancels_run}
-use Rattle.write_turns.proofs.all_turns.cancelled_writes_run.Goals as goal
-
-pub returns : goal.returns
-returns g c = λ store shards. cancels_run g.D.Device.state g.D.Device.honest g.D.Device.moment g.D.Device.left_since g.met.D.Device.only_now store shards

@@ -1,5 +1,0 @@
-use Rattle.write_turns.proofs.Learning.{batch_turns}
-use Rattle.write_turns.proofs.catch_up_turns.batch_takes_its_turn.Goals as goal
-
-pub returns : goal.returns
-returns g c = λ store shards from to. batch_turns g.D.Device.state g.D.Device.honest g.D.Device.moment g.D.Device.left_since g.met.D.Device.counts_now g.met.D.Device.only_now store shards from to

@@ -1,5 +1,0 @@
-use Rattle.write_turns.proofs.Leaving.{aborts_turn}
-use Rattle.write_turns.proofs.leaving_turns.abort_takes_its_turn.Goals as goal
-
-pub returns : goal.returns
-returns g c = λ store shards intent. aborts_turn g.D.Device.state g.D.Device.honest g.D.Device.moment g.D.Device.left_since g.met.D.Device.counts_now g.met.D.Device.only_now store shards intent
