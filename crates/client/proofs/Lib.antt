@@ -1,0 +1,6 @@
+pub mod Verbs
+pub mod Fine
+pub mod Cuts
+pub mod Feeds
+pub mod Reread
+pub mod Asking

@@ -1,0 +1,5 @@
+pub mod Forms
+pub mod Reading
+pub mod Answers
+pub mod Kinds
+pub mod Sent

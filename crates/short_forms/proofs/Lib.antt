@@ -1,5 +1,0 @@
-pub mod Verbs
-pub mod Fine
-pub mod Cuts
-pub mod Feeds
-pub mod Reread

@@ -1,8 +1,0 @@
-use Rattle.std.proofs.Common.{◌≡◌, ◌++◌, map, take}
-use Rattle.serde_json.specs.Data.{string}
-use Rattle.serde_json.specs.View.{view}
-use Rattle.short_forms.specs.Reading.{texts}
-use Rattle.short_forms.proofs.members.push_texts.Given as goal
-
-abbrev pub invariant-loop-word : goal.invariant-loop-word
-invariant-loop-word l = map view l.list.items ≡ map view l.initial.list.items ++ map string (texts (take l.word-index l.words))
