@@ -3,7 +3,7 @@
 use crate::plays::Playing;
 use crate::texts::{care, command, flushed, number, refusal, request, two_numbers};
 use device::Device;
-use lines::Command;
+use script_text::Command;
 use names::NodeName;
 use std::alloc::Global;
 use tuples::{Refusal, Request};

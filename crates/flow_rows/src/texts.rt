@@ -1,6 +1,6 @@
 // The words of a step.
 use crate::stores::{STORE, shards};
-use lines::Command;
+use script_text::Command;
 use names::{Care, NodeName};
 use std::alloc::Global;
 use tuples::{Refusal, Request, Write};

@@ -6,7 +6,7 @@
 mod opening;
 mod row;
 
-use printed::Printed;
+use script_text::Printed;
 use row::Row;
 use std::alloc::{AllocError, Global};
 use std::io::{self, Read, Write};

@@ -1,9 +1,9 @@
 -- A line that spells a command of a flow names one that runs.
 use Rattle.std.proofs.Common.{ℕ, List, length}
 use Rattle.std.proofs.lemmas.Option.{slice_get_within}
-use Rattle.lines.specs.declared.command.Command.{Command}
-use Rattle.lines.specs.declared.command.Command.TheVariants.{Pass, Ask, Start, Handle, Care, Rows, Restart, Fail, Reshard}
-use Rattle.lines.specs.Lines.{Spells}
+use Rattle.script_text.specs.declared.command.Command.{Command}
+use Rattle.script_text.specs.declared.command.Command.TheVariants.{Pass, Ask, Start, Handle, Care, Rows, Restart, Fail, Reshard}
+use Rattle.script_text.specs.Lines.{Spells}
 use Rattle.scripts.specs.Scripts.{IsAmong}
 
 pub among : (id shards : ℕ) (names : List (List ℕ)) (line : List ℕ) (c : Command) → Spells id shards names line c → IsAmong c (length names)

@@ -22,7 +22,7 @@ use Rattle.cluster.specs.declared.step.Step.{Step}
 use Rattle.cluster.specs.declared.step.Step.TheVariants as step
 use Rattle.device.specs.Device.{State}
 use Rattle.device.specs.declared.tear.Tear.{Tear}
-use Rattle.printed.specs.Texts.{refusal_line}
+use Rattle.script_text.specs.PrintedTexts.{refusal_line}
 use Rattle.refusal.specs.declared.refusal.Refusal.{Refusal}
 use Rattle.refusal.specs.declared.refusal.Refusal.TheVariants.{Full, NoMemory}
 use Rattle.scripts.proofs.Short.{refusal_short}

@@ -6,7 +6,7 @@ use Rattle.std.proofs.lemmas.List.{length-append}
 use Rattle.refusal.specs.declared.refusal.Refusal.{Refusal}
 use Rattle.refusal.specs.declared.refusal.Refusal.TheVariants.{BadRequest, BadTuple, TooLarge, Repeated, BadZookie, WrongStore, Future, Collected, Precondition, Busy, Aborted, Unsure, Down, NoMemory, Full, Damaged}
 use Rattle.refusal.specs.Refusals.{name_of}
-use Rattle.printed.specs.Texts.{refusal_line}
+use Rattle.script_text.specs.PrintedTexts.{refusal_line}
 
 line_short : (number : ℕ) (name : List ℕ) → number < 100 → length name ≤ 100 → length (codes "refused " ++ decimal number ++ 32 ∷ name ++ 10 ∷ []) ≤ 128
 line_short number name few short =

@@ -8,9 +8,9 @@ use Rattle.cluster.specs.declared.event.What.{What}
 use Rattle.cluster.specs.declared.step.Step.{Step}
 use Rattle.device.specs.declared.tear.Tear.{Tear}
 use Rattle.journal.specs.declared.refused.Bank.{Bank}
-use Rattle.lines.specs.declared.command.Command.{Command}
-use Rattle.lines.specs.declared.command.Command.TheVariants.{Pass, Ask, Start, Handle, Care, Rows, Restart, Fail, Reshard}
-use Rattle.lines.specs.Lines.{Spells}
+use Rattle.script_text.specs.declared.command.Command.{Command}
+use Rattle.script_text.specs.declared.command.Command.TheVariants.{Pass, Ask, Start, Handle, Care, Rows, Restart, Fail, Reshard}
+use Rattle.script_text.specs.Lines.{Spells}
 use Rattle.refusal.specs.declared.refusal.Refusal.{Refusal}
 use Rattle.scripts.specs.Answering.{Tries}
 use Rattle.scripts.specs.Runs.{Prints, RepliesTo}

@@ -2,9 +2,9 @@
 use Rattle.std.specs.Prelude.{◌≤◌, ℕ, List}
 use Rattle.cluster.specs.declared.step.Step.TheVariants as step
 use Rattle.headline.specs.Told.{IsWholeStep}
-use Rattle.lines.specs.declared.command.Command.{Command}
-use Rattle.lines.specs.declared.command.Command.TheVariants.{Pass, Ask, Start, Handle, Care, Rows, Restart, Fail, Reshard}
-use Rattle.lines.specs.Lines.{IsRequest, Spells}
+use Rattle.script_text.specs.declared.command.Command.{Command}
+use Rattle.script_text.specs.declared.command.Command.TheVariants.{Pass, Ask, Start, Handle, Care, Rows, Restart, Fail, Reshard}
+use Rattle.script_text.specs.Lines.{IsRequest, Spells}
 use Rattle.tuples.specs.Limits.{max_shards}
 use Rattle.tuples.specs.declared.request.Request.{Request}
 use Rattle.tuples.specs.declared.request.Request.TheVariants.{Write, Read, Check, Watch}

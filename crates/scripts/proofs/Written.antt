@@ -5,7 +5,7 @@ use Rattle.std.specs.Fmt.{digits}
 use Rattle.names.specs.declared.call_name.CallName.{CallName}
 use Rattle.names.specs.declared.call_name.CallName.TheVariants as call
 use Rattle.names.specs.Names.{call_text}
-use Rattle.printed.specs.Texts.{named_line, refusal_line, told_line}
+use Rattle.script_text.specs.PrintedTexts.{named_line, refusal_line, told_line}
 use Rattle.refusal.specs.declared.refusal.Refusal.{Refusal}
 use Rattle.refusal.specs.declared.refusal.Refusal.TheVariants.{BadRequest, BadTuple, TooLarge, Repeated, BadZookie, WrongStore, Future, Collected, Precondition, Busy, Aborted, Unsure, Down, NoMemory, Full, Damaged}
 use Rattle.zookie.specs.Zookies.{zookie_bytes, zookie_text}

@@ -7,10 +7,10 @@ use Rattle.cluster.specs.declared.event.What.{What}
 use Rattle.cluster.specs.declared.step.Step.{Step}
 use Rattle.device.specs.declared.tear.Tear.{Tear}
 use Rattle.journal.specs.declared.refused.Bank.{Bank}
-use Rattle.lines.specs.declared.command.Command.{Command}
-use Rattle.lines.specs.Causes.{Cause}
-use Rattle.lines.specs.Lines.{Spells}
-use Rattle.printed.specs.Texts.{refusal_line}
+use Rattle.script_text.specs.declared.command.Command.{Command}
+use Rattle.script_text.specs.Causes.{Cause}
+use Rattle.script_text.specs.Lines.{Spells}
+use Rattle.script_text.specs.PrintedTexts.{refusal_line}
 use Rattle.refusal.specs.declared.refusal.Refusal.{Refusal}
 use Rattle.refusal.specs.declared.refusal.Refusal.TheVariants.{NoMemory}
 use Rattle.tuples.specs.declared.version.Version.{Version}

@@ -4,7 +4,7 @@ use Rattle.names.specs.declared.call_name.CallName.{CallName}
 use Rattle.cluster.specs.declared.event.What.{What}
 use Rattle.cluster.specs.declared.step.Step.{Step}
 use Rattle.cluster.specs.declared.step.Step.TheVariants.{Turn}
-use Rattle.lines.specs.declared.flow.Handling.TheVariants as handling
+use Rattle.script_text.specs.declared.flow.Handling.TheVariants as handling
 
 -- the call is the one that is asked for; if none is, no call is it
 abbrev pub IsAsked : Option CallName → CallName → Type 0

@@ -10,8 +10,8 @@ use Rattle.cluster.specs.declared.step.Step.{Step}
 use Rattle.cluster.specs.declared.step.Step.TheVariants as step
 use Rattle.device.specs.Device.{State}
 use Rattle.device.specs.declared.tear.Tear.{Tear}
-use Rattle.lines.specs.declared.command.Command.TheVariants.{Ask}
-use Rattle.printed.specs.Texts.{refusal_line}
+use Rattle.script_text.specs.declared.command.Command.TheVariants.{Ask}
+use Rattle.script_text.specs.PrintedTexts.{refusal_line}
 use Rattle.refusal.specs.declared.refusal.Refusal.TheVariants.{NoMemory}
 use Rattle.scripts.specs.Answering.{Tries}
 use Rattle.scripts.specs.Going.{Goes, most_calls}

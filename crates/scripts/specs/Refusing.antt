@@ -5,10 +5,10 @@ use Rattle.names.specs.declared.call_name.CallName.{CallName}
 use Rattle.cluster.specs.declared.event.What.{What}
 use Rattle.cluster.specs.declared.step.Step.{Step}
 use Rattle.cluster.specs.declared.step.Step.TheVariants as step
-use Rattle.lines.specs.declared.command.Command.{Command}
-use Rattle.lines.specs.declared.command.Command.TheVariants.{Pass, Ask, Start, Handle, Care, Rows, Restart, Fail, Reshard}
-use Rattle.lines.specs.declared.flow.Handling.{Handling}
-use Rattle.lines.specs.declared.flow.Handling.TheVariants as handling
+use Rattle.script_text.specs.declared.command.Command.{Command}
+use Rattle.script_text.specs.declared.command.Command.TheVariants.{Pass, Ask, Start, Handle, Care, Rows, Restart, Fail, Reshard}
+use Rattle.script_text.specs.declared.flow.Handling.{Handling}
+use Rattle.script_text.specs.declared.flow.Handling.TheVariants as handling
 use Rattle.refusal.specs.declared.refusal.Refusal.{Refusal}
 use Rattle.tuples.specs.declared.version.Version.{Version}
 use Rattle.scripts.specs.Going.{LeavesOff}

@@ -11,7 +11,7 @@ use Rattle.device.specs.declared.tear.Tear.{Tear}
 use Rattle.journal.specs.declared.refused.Bank.{Bank}
 use Rattle.line_io.specs.Lines.{HasNoFeed}
 use Rattle.line_io.specs.Outputs.{HasBegun}
-use Rattle.printed.specs.Texts.{refusal_line}
+use Rattle.script_text.specs.PrintedTexts.{refusal_line}
 use Rattle.refusal.specs.declared.refusal.Refusal.{Refusal}
 use Rattle.refusal.specs.declared.refusal.Refusal.TheVariants.{NoMemory, TooLarge}
 use Rattle.scripts.specs.Answering.{Answers}

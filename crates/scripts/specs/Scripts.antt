@@ -10,11 +10,11 @@ use Rattle.cluster.specs.declared.step.Step.{Step}
 use Rattle.cluster.specs.declared.step.Step.TheVariants as step
 use Rattle.device.specs.declared.tear.Tear.{Tear}
 use Rattle.journal.specs.declared.refused.Bank.{Bank}
-use Rattle.lines.specs.declared.command.Command.{Command}
-use Rattle.lines.specs.declared.command.Command.TheVariants.{Pass, Ask, Start, Handle, Care, Rows, Restart, Fail, Reshard}
-use Rattle.lines.specs.declared.flow.Handling.{Handling}
-use Rattle.lines.specs.declared.flow.Handling.TheVariants as handling
-use Rattle.printed.specs.Texts.{named_line, refusal_line, version_line}
+use Rattle.script_text.specs.declared.command.Command.{Command}
+use Rattle.script_text.specs.declared.command.Command.TheVariants.{Pass, Ask, Start, Handle, Care, Rows, Restart, Fail, Reshard}
+use Rattle.script_text.specs.declared.flow.Handling.{Handling}
+use Rattle.script_text.specs.declared.flow.Handling.TheVariants as handling
+use Rattle.script_text.specs.PrintedTexts.{named_line, refusal_line, version_line}
 use Rattle.refusal.specs.declared.refusal.Refusal.{Refusal}
 use Rattle.refusal.specs.declared.refusal.Refusal.TheVariants.{Future}
 use Rattle.tuples.specs.Limits.{max_shards}

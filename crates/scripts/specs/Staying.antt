@@ -5,7 +5,7 @@ use Rattle.cluster.specs.Steps.{Takes}
 use Rattle.cluster.specs.Worlds.{WorldView}
 use Rattle.device.specs.Device.{State}
 use Rattle.device.specs.declared.tear.Tear.{Tear}
-use Rattle.lines.specs.Words.{words_of}
+use Rattle.script_text.specs.Words.{words_of}
 use Rattle.scripts.specs.Resharding.{Reshards}
 use Rattle.scripts.specs.Runs.{Prints}
 use Rattle.scripts.specs.Scripts.{ScriptView}

@@ -10,7 +10,7 @@ use Rattle.cluster.specs.declared.event.Answer.{Answer}
 use Rattle.cluster.specs.declared.event.Answer.TheVariants as ended
 use Rattle.cluster.specs.declared.event.What.{What}
 use Rattle.cluster.specs.declared.event.What.TheVariants.{Began, Next, Ended, Up, Refused}
-use Rattle.printed.specs.Texts.{id_text, membership_word, named_line, refusal_line, resolved_line, row_lines, told_line, version_line}
+use Rattle.script_text.specs.PrintedTexts.{id_text, membership_word, named_line, refusal_line, resolved_line, row_lines, told_line, version_line}
 
 -- what became of a write that was in doubt
 abbrev pub resolved_text : Resolved → List ℕ

@@ -7,7 +7,7 @@ ghost use Rattle.scripts.specs.Telling.{done_line, end_text, resolved_text, told
 use answers::{Answer, Events, Membership, Rows, Written};
 use care_flow::Resolved;
 use cluster::What;
-use printed::Printed;
+use script_text::Printed;
 use std::alloc::AllocError;
 use tuples::Refusal;
 

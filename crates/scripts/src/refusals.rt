@@ -1,9 +1,9 @@
 // What is printed if a line is too long, or memory is refused: made first, so that it needs no memory then.
 ghost use Rattle.std.specs.Prelude.{◌≡◌, IfOk};
-ghost use Rattle.printed.specs.Texts.{refusal_line};
+ghost use Rattle.script_text.specs.PrintedTexts.{refusal_line};
 ghost use Rattle.refusal.specs.declared.refusal.Refusal.TheVariants.{NoMemory, TooLarge};
 
-use printed::Printed;
+use script_text::Printed;
 use std::alloc::{AllocError, Global};
 use tuples::Refusal;
 

@@ -3,8 +3,8 @@ ghost use Rattle.std.specs.Prelude.{◌≡◌, ◌<◌, ◌≤◌, ◌+◌, ◌+
 ghost use Rattle.std.specs.List.{remove};
 ghost use Rattle.cluster.specs.declared.event.What.{What as AnyWhat};
 ghost use Rattle.cluster.specs.declared.step.Step.TheVariants as any_step;
-ghost use Rattle.lines.specs.Causes.{Cause};
-ghost use Rattle.lines.specs.Lines.{Spells};
+ghost use Rattle.script_text.specs.Causes.{Cause};
+ghost use Rattle.script_text.specs.Lines.{Spells};
 ghost use Rattle.scripts.specs.Refusing.{CarriesOutNot, HandlesNot, IsLong, StartsNot, line_room};
 ghost use Rattle.scripts.specs.Scripts.{
   CarriesOut,
@@ -24,9 +24,9 @@ use crate::going::{cancel, go};
 use crate::printing::{print_resharded, print_told};
 use crate::serving::{print_unbegun, serve};
 use cluster::{Step, What};
-use lines::{Command, Failure, Handling, Name};
+use script_text::{Command, Failure, Handling, Name};
 use names::NodeName;
-use printed::Printed;
+use script_text::Printed;
 use std::alloc::{AllocError, Global};
 use std::marker::Model;
 use tuples::{Refusal, Shards};

@@ -1,16 +1,16 @@
 // What each line of a script does with a store.
 ghost use Rattle.std.specs.Prelude.{◌≡◌, ◌≤◌, ◌+◌, ◌⊎◌, ◌++◌, [], List, ℕ, IfErr, IfOk, OnErr, OnOk, length, vec_capacity, vec_len};
-ghost use Rattle.lines.specs.Causes.{Cause};
-ghost use Rattle.lines.specs.Lines.{Spells};
-ghost use Rattle.printed.specs.Texts.{refusal_line};
+ghost use Rattle.script_text.specs.Causes.{Cause};
+ghost use Rattle.script_text.specs.Lines.{Spells};
+ghost use Rattle.script_text.specs.PrintedTexts.{refusal_line};
 ghost use Rattle.scripts.specs.Answering.{Answers, Tries};
 ghost use Rattle.scripts.specs.Refusing.{CarriesOutNot, line_room};
 ghost use Rattle.scripts.specs.Scripts.{CarriesOut, IsAmong};
 
 use crate::Store;
 use crate::running::Running;
-use lines::Command;
-use printed::Printed;
+use script_text::Command;
+use script_text::Printed;
 use std::alloc::{AllocError, Global};
 use std::marker::Model;
 use tuples::Refusal;

@@ -10,7 +10,7 @@ use crate::Store;
 use crate::going::{cancel, go};
 use crate::printing::print_told;
 use cluster::{Step, What};
-use printed::Printed;
+use script_text::Printed;
 use std::alloc::AllocError;
 use tuples::Refusal;
 

@@ -5,7 +5,7 @@ ghost use Rattle.records.specs.Identity.{coordinator_number};
 use coordinator::Coordinator;
 use decisions::Batch;
 use device::Device;
-use printed::Printed;
+use script_text::Printed;
 use records::Identity;
 use shard::Shard;
 use std::alloc::Global;

@@ -1,5 +1,5 @@
 use Rattle.std.proofs.Common.{◌<◌, ◌+◌, arith, length, vec_capacity, vec_len}
-use Rattle.printed.specs.Texts.{refusal_line}
+use Rattle.script_text.specs.PrintedTexts.{refusal_line}
 use Rattle.scripts.proofs.Short.{refusal_short}
 use Rattle.scripts.proofs.script.refuse.Goals as goal
 

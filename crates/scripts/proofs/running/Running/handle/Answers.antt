@@ -1,8 +1,8 @@
 use Rattle.std.proofs.Common.{◌≡◌, ◌<◌, ◌∙◌, ◌++◌, ℕ, List, OnErr, OnOk, Some, None, ap, arith, inr, length, refl, subst, sym}
 use Rattle.std.proofs.lemmas.Option.{get_or_from_slice_get, slice_get_read}
 use Rattle.std.proofs.lemmas.Result.{on_err_weaker}
-use Rattle.lines.specs.declared.flow.Handling.{Handling}
-use Rattle.lines.specs.declared.flow.Handling.TheVariants as handling
+use Rattle.script_text.specs.declared.flow.Handling.{Handling}
+use Rattle.script_text.specs.declared.flow.Handling.TheVariants as handling
 use Rattle.cluster.specs.declared.step.Step.TheVariants.{Turn}
 use Rattle.scripts.specs.Going.{Goes}
 use Rattle.scripts.specs.Refusing.{HandlesNot}

@@ -1,5 +1,5 @@
 use Rattle.std.proofs.Common.{ℕ, List, IfErr, subst}
-use Rattle.lines.specs.Causes.{Cause}
+use Rattle.script_text.specs.Causes.{Cause}
 use Rattle.scripts.specs.Scripts.{RunningView}
 use Rattle.scripts.proofs.running.Running.parse.Goals as goal
 

@@ -1,6 +1,6 @@
 use Rattle.std.proofs.Common.{◌<◌, ◌+◌, Err, arith, length, refl, subst, vec_capacity, vec_len}
 use Rattle.std.proofs.lemmas.Result.{on_err_weaker}
-use Rattle.printed.specs.Texts.{refusal_line}
+use Rattle.script_text.specs.PrintedTexts.{refusal_line}
 use Rattle.scripts.specs.Scripts.{RunningView}
 use Rattle.scripts.proofs.running.Running.rows.Goals as goal
 

@@ -1,7 +1,7 @@
 use Rattle.std.proofs.Common.{◌≡◌, ◌<◌, ◌+◌, List, ℕ, Some, ap, arith, codes, length, refl, slice_get, subst, vec_capacity, vec_len}
 use Rattle.std.proofs.lemmas.Option.{slice_get_read}
 use Rattle.std.proofs.lemmas.Result.{on_err_weaker}
-use Rattle.printed.specs.Texts.{named_line}
+use Rattle.script_text.specs.PrintedTexts.{named_line}
 use Rattle.scripts.specs.Scripts.{RunningView, TellsCancel}
 use Rattle.scripts.proofs.running.Running.tell_cancelled.Goals as goal
 

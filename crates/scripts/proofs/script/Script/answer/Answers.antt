@@ -1,5 +1,5 @@
 use Rattle.std.proofs.Common.{inl, inr, refl}
-use Rattle.printed.specs.Texts.{refusal_line}
+use Rattle.script_text.specs.PrintedTexts.{refusal_line}
 use Rattle.scripts.proofs.Among.{among}
 use Rattle.scripts.proofs.script.Script.answer.Goals as goal
 

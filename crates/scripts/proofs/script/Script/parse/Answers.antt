@@ -1,5 +1,5 @@
 use Rattle.std.proofs.Common.{IfErr, subst}
-use Rattle.lines.specs.Causes.{Cause}
+use Rattle.script_text.specs.Causes.{Cause}
 use Rattle.scripts.specs.Scripts.{ScriptView}
 use Rattle.scripts.proofs.script.Script.parse.Goals as goal
 

@@ -1,6 +1,6 @@
 use Rattle.std.proofs.Common.{◌∙◌, ◌++◌, ℕ, List, ap, inl, inr, refl}
 use Rattle.refusal.specs.declared.refusal.Refusal.TheVariants.{NoMemory}
-use Rattle.printed.specs.Texts.{refusal_line}
+use Rattle.script_text.specs.PrintedTexts.{refusal_line}
 use Rattle.scripts.proofs.script.Script.try_out.Goals as goal
 
 pub returns-in-Ok-clause-told : goal.returns-in-Ok-clause-told

@@ -1,7 +1,0 @@
-use Rattle.lines.specs.Words.{texts}
-use Rattle.lines.proofs.Firsts.{no_handling}
-use Rattle.lines.proofs.flow.parse_handling.Goals as goal
-
-pub returns-in_default-parse_until : goal.returns-in_default-parse_until
-returns-in_default-parse_until c =
-    no_handling c.args.running.now (texts c.args.words.now) c.in_default.ensures c.in_default-one_behind.ensures c.in_default-one_behind-2.ensures c.in_default-parse_until.ensures

@@ -1,5 +1,0 @@
-use Rattle.lines.proofs.Names.{finds}
-use Rattle.lines.proofs.name.find.Goals as goal
-
-pub returns : goal.returns
-returns c = finds c.args.name.now c.args.running.now c.position_of.result c.position_of.ensures

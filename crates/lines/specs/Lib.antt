@@ -1,5 +1,0 @@
-pub mod Texts
-pub mod Words
-pub mod Shapes
-pub mod Lines
-pub mod Causes

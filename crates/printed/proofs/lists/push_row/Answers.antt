@@ -1,5 +1,0 @@
-use Rattle.answers.proofs.Growing.{grown_then}
-use Rattle.printed.proofs.lists.push_row.Goals as goal
-
-pub returns : goal.returns
-returns c = grown_then (grown_then c.push_number.ensures (grown_then c.push.ensures c.push_tuple.ensures)) c.push-2.ensures

@@ -1,7 +1,0 @@
-use Rattle.answers.proofs.Growing.{grown_as, grown_then}
-use Rattle.printed.specs.Texts.{row_line}
-use Rattle.printed.proofs.Rows.{one_more}
-use Rattle.printed.proofs.lists.push_set.Goals as goal
-
-pub loop-tuple-preserved : goal.loop-tuple-preserved
-loop-tuple-preserved c = grown_as (one_more (row_line c.args.number) c.args.tuples.now c.loop-tuple.tuple-index c.tuple-item.result c.loop-tuple-test.true c.tuple-item.is) (grown_then c.loop-tuple.invariant c.push_row.ensures)

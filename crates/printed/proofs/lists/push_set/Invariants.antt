@@ -1,8 +1,0 @@
-use Rattle.std.proofs.Common.{take}
-use Rattle.std.specs.List.{flat_map}
-use Rattle.answers.specs.Grown.{Grown}
-use Rattle.printed.specs.Texts.{row_line}
-use Rattle.printed.proofs.lists.push_set.Given as goal
-
-abbrev pub invariant-loop-tuple : goal.invariant-loop-tuple
-invariant-loop-tuple l = Grown l.initial.out l.out (flat_map (row_line l.number) (take l.tuple-index l.tuples))

@@ -1,8 +1,0 @@
-use Rattle.std.proofs.Common.{take}
-use Rattle.std.specs.List.{flat_map}
-use Rattle.answers.specs.Grown.{Grown}
-use Rattle.printed.specs.Texts.{version_line}
-use Rattle.printed.proofs.lists.push_versions.Given as goal
-
-abbrev pub invariant-loop-version : goal.invariant-loop-version
-invariant-loop-version l = Grown l.initial.out l.out (flat_map version_line (take l.version-index l.versions))

@@ -1,0 +1,12 @@
+pub mod Lists
+pub mod Digits
+pub mod Counts
+pub mod Parts
+pub mod Asking
+pub mod Marks
+pub mod Writing
+pub mod Names
+pub mod Firsts
+pub mod Spelled
+pub mod Causing
+pub mod Rows

@@ -1,0 +1,5 @@
+use Rattle.answers.proofs.Growing.{grown_then}
+use Rattle.script_text.proofs.printed.push_resolved.Goals as goal
+
+pub returns : goal.returns
+returns c = grown_then (grown_then c.push.ensures c.push_id.ensures) c.push-2.ensures

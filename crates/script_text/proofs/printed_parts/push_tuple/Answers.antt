@@ -1,0 +1,7 @@
+use Rattle.answers.proofs.Growing.{grown_as, grown_then}
+use Rattle.script_text.proofs.printed_parts.push_tuple.Goals as goal
+
+pub returns : goal.returns
+returns c =
+    grown_then (grown_then c.push_object.ensures (grown_then c.push.ensures (grown_as c.as_bytes.ensures.value c.push-2.ensures)))
+    (grown_then c.push-3.ensures c.push_user.ensures)
