@@ -1,4 +1,4 @@
-// Requests, from their lines, with the tests of crates/requests in their order: shape, sizes, texts, tokens, repeats. Who
+// Requests, from their lines, with the tests of crates/json_lines in their order: shape, sizes, texts, tokens, repeats. Who
 // has this module says by `json` how a line is read as JSON.
 use crate::json::{self, Members, Value};
 use crate::texts::log::{Change, Condition, Object, Tuple, User, Want};

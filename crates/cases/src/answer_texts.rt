@@ -1,5 +1,5 @@
 // The texts of answers and refusals, as the rules of the lines spell them; another program's base64 gave the tokens.
-use answers::{Answer, Events, Membership, Rows, Written, write_refusal};
+use json_lines::{Answer, Events, Membership, Rows, Written, write_refusal};
 use refusal::Refusal;
 use std::alloc::{AllocError, Global};
 use std::test::Fail;

@@ -1,5 +1,5 @@
 // Sessions that break off; the lines and their answers are those of the rules of the lines.
-use answers::{Events, Membership, Rows, Written};
+use json_lines::{Events, Membership, Rows, Written};
 use sessions::{Answers, serve_stream};
 use std::alloc::Global;
 use std::io::{self, ErrorKind, Read};

@@ -15,7 +15,7 @@ use Rattle.serde_json.specs.Data.{Data, Items, Members, depth, items_depth, memb
 use Rattle.serde_json.specs.Read.{max_depth, read}
 use Rattle.serde_json.specs.View.{items_of}
 use Rattle.serde_json.specs.Written.{comma_if, compact_text, has_float, items_have_float, items_text, members_have_float, members_text}
-use Rattle.requests.specs.Shapes.{Field, list_with, members_with, object_with, texts_json}
+use Rattle.json_lines.specs.Shapes.{Field, list_with, members_with, object_with, texts_json}
 use Rattle.tuples.specs.Parsing.{Lacks}
 use Rattle.client.specs.Forms.{Asked, Changed, Fresh, IsShort, Short, absent, asked_json, at_least, changed_json, checks, deleted, exact, exists, fresh_fields, latest, limit_of, reads, short_fields, since, touched, unsaid, watches, writes}
 

@@ -1,7 +1,7 @@
 -- What stands for a short form.
 use Rattle.std.proofs.Common.{◌≡◌, List, [], ◌∷◌, map, codes, refl, ap, ◌∙◌}
 use Rattle.serde_json.specs.Data.{Members, no_members, put, string}
-use Rattle.requests.specs.Shapes.{list_with, members_with}
+use Rattle.json_lines.specs.Shapes.{list_with, members_with}
 use Rattle.client.specs.Forms.{Asked, Changed, changed_json, short_fields, writes}
 use Rattle.client.specs.Reading.{with_conditions}
 

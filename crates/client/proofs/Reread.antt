@@ -3,11 +3,11 @@ use Rattle.std.proofs.Common.{◌≡◌, ℕ, ◌<◌, ◌^◌, List, Some, sym,
 use Rattle.serde_json.specs.Data.{Data}
 use Rattle.refusal.specs.declared.refusal.Refusal.{Refusal}
 use Rattle.tuples.specs.declared.request.Request.{Request}
-use Rattle.requests.specs.Causes.{Cause}
-use Rattle.requests.specs.Laws.{NoneIsSpelledAndRefused}
-use Rattle.requests.specs.Lines.{IsObject, Spells}
-use Rattle.requests.specs.Shapes.{Field, object_with}
-use Rattle.requests.proofs.Values.{objects_once}
+use Rattle.json_lines.specs.Causes.{Cause}
+use Rattle.json_lines.specs.Laws.{NoneIsSpelledAndRefused}
+use Rattle.json_lines.specs.Lines.{IsObject, Spells}
+use Rattle.json_lines.specs.Shapes.{Field, object_with}
+use Rattle.json_lines.proofs.Values.{objects_once}
 use Rattle.client.specs.Forms.{HasShort, Short, short_fields}
 use Rattle.client.specs.Reading.{IsJson, IsUnread, words_of}
 

@@ -4,7 +4,7 @@ use Rattle.std.specs.Str.Parse.{IsNumeral, digits_value, without_leading_plus}
 use Rattle.serde_json.specs.Data.{Data, string}
 use Rattle.tuples.specs.Limits.{max_watched}
 use Rattle.tuples.specs.Parsing.{Lacks}
-use Rattle.requests.specs.Shapes.{Field, asks_sets, asks_tuple, change_with, question_with, since_with, texts_json, want_with, watch_with, write_with}
+use Rattle.json_lines.specs.Shapes.{Field, asks_sets, asks_tuple, change_with, question_with, since_with, texts_json, want_with, watch_with, write_with}
 
 -- What a write does to a tuple: it puts it there, or takes it away.
 pub data Changed : Type 0 where

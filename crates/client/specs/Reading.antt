@@ -12,9 +12,9 @@ use Rattle.client.specs.declared.form.Freshness.{Freshness}
 use Rattle.client.specs.declared.form.Freshness.TheVariants as freshness
 use Rattle.client.specs.declared.mistake.Mistake.{Mistake}
 use Rattle.client.specs.declared.mistake.Mistake.TheVariants.{NoMemory}
-use Rattle.requests.specs.Shapes.{list_with, members_with}
-use Rattle.requests.specs.Laws.{IsRequest}
-use Rattle.requests.specs.Lines.{Spells}
+use Rattle.json_lines.specs.Shapes.{list_with, members_with}
+use Rattle.json_lines.specs.Laws.{IsRequest}
+use Rattle.json_lines.specs.Lines.{Spells}
 use Rattle.refusal.specs.declared.refusal.Refusal.{Refusal}
 use Rattle.refusal.specs.declared.refusal.Refusal.TheVariants as refusal
 use Rattle.tuples.specs.declared.request.Request.{Request}

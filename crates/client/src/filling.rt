@@ -2,7 +2,7 @@
 ghost use Rattle.std.specs.Prelude.{◌≡◌, ◌∷◌, ◌↔◌, IfErr, IfOk, IsTrue, MatchOption, MatchResult, OnOk, codes, ℕ};
 ghost use Rattle.serde_json.specs.Data.{no_members};
 ghost use Rattle.serde_json.specs.View.{members_view, view};
-ghost use Rattle.requests.specs.Shapes.{asks_sets, asks_tuple, members_with, object_with, question_with, texts_json, watch_with};
+ghost use Rattle.json_lines.specs.Shapes.{asks_sets, asks_tuple, members_with, object_with, question_with, texts_json, watch_with};
 ghost use Rattle.client.specs.Forms.{HasShort, IsLimit, Short, fresh_fields, limit_of, short_fields};
 ghost use Rattle.client.specs.Reading.{Fills, IsMistaken, SpellsNone, fresh_view, texts};
 

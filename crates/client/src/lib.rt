@@ -1,6 +1,6 @@
 //! A client of a server: requests as a user types them, as request lines, and sent one after another, with what to do about each refusal.
 //!
-//! Keeps: the line of a short form is the JSON of an object whose members are those that the form stands for, in the very words of the server's reader (`requests`).
+//! Keeps: the line of a short form is the JSON of an object whose members are those that the form stands for, in the very words of the server's reader (`json_lines`).
 //! A line that begins with `{` stays as it is, and no line has a line feed. A request is sent as its line and a line feed, and again only so often as was asked for;
 //! what a refusal says is told by its number alone. An answer has what an answer to that request has.
 //! Never: looks into a tuple, a name or a token: the server tests each, and tells what is wrong. Never sends a write again whose first sending may stand: not after

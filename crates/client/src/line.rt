@@ -1,6 +1,6 @@
 // A request line, of what was typed.
 ghost use Rattle.std.specs.Prelude.{◌≡◌, ◌⊎◌, IfErr, IfOk, string_bytes, true};
-ghost use Rattle.requests.specs.Lines.{IsObject};
+ghost use Rattle.json_lines.specs.Lines.{IsObject};
 ghost use Rattle.tuples.specs.Parsing.{Lacks, has_byte};
 ghost use Rattle.client.specs.Forms.{HasShort, Short, short_fields};
 ghost use Rattle.client.specs.Reading.{IsJson, IsMistaken, SpellsNone, texts, words_of};

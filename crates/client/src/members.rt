@@ -2,7 +2,7 @@
 ghost use Rattle.std.specs.Prelude.{◌≡◌, ◌∷◌, ◌++◌, [], OnOk, IfOk, map};
 ghost use Rattle.serde_json.specs.Data.{put as with_member, string};
 ghost use Rattle.serde_json.specs.View.{members_view, view};
-ghost use Rattle.requests.specs.Shapes.{texts_json};
+ghost use Rattle.json_lines.specs.Shapes.{texts_json};
 ghost use Rattle.client.specs.Forms.{asked_json, changed_json};
 ghost use Rattle.client.specs.Reading.{change_view, condition_view, fresh_view, texts, with_fresh};
 

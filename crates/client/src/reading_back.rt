@@ -1,14 +1,14 @@
 // What a server reads of the line that is sent.
 ghost use Rattle.std.specs.Prelude.{◌≡◌, IfErr, IfOk};
-ghost use Rattle.requests.specs.Lines.{Spells};
-ghost use Rattle.requests.specs.Laws.{NoneIsSpelledAndRefused};
+ghost use Rattle.json_lines.specs.Lines.{Spells};
+ghost use Rattle.json_lines.specs.Laws.{NoneIsSpelledAndRefused};
 ghost use Rattle.tuples.specs.Parsing.{has_byte};
 ghost use Rattle.client.specs.Forms.{HasShort, Short, short_fields};
 ghost use Rattle.client.specs.Reading.{IsJson, IsUnread, words_of};
 
 use crate::line::request_line;
 use crate::mistake::Mistake;
-use requests::{no_line_is_spelled_and_refused, parse_request};
+use json_lines::{no_line_is_spelled_and_refused, parse_request};
 use std::alloc::Global;
 use tuples::{Refusal, Request};
 

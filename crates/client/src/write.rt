@@ -2,7 +2,7 @@
 ghost use Rattle.std.specs.Prelude.{◌≡◌, ◌≤◌, ◌∷◌, ◌++◌, [], List, ℕ, IfErr, IfOk, MatchOption, MatchResult, OnOk, All, codes, length, map};
 ghost use Rattle.serde_json.specs.Data.{put as with_member};
 ghost use Rattle.serde_json.specs.View.{members_view, view};
-ghost use Rattle.requests.specs.Shapes.{list_with};
+ghost use Rattle.json_lines.specs.Shapes.{list_with};
 ghost use Rattle.client.specs.Forms.{Asked, Changed, IsAsked, asked_json, asked_word, changed_json, changed_word, if_words};
 ghost use Rattle.client.specs.Reading.{AreAsked, BeginsNoChange, Fills, IsMistaken, PutsChanges, PutsConditions, SpellsNone, texts};
 

@@ -1,10 +1,10 @@
 // The text of a dump.
 ghost use Rattle.std.specs.Prelude.{◌≡◌, ◌++◌, OnOk};
 ghost use Rattle.std.specs.List.{flat_map};
-ghost use Rattle.answers.specs.Grown.{Grown};
+ghost use Rattle.json_lines.specs.Grown.{Grown};
 ghost use Rattle.dumping.specs.Dumped.{dump_text, head_line, tuple_line};
 
-use answers::Text;
+use json_lines::Text;
 use std::alloc::AllocError;
 use tuples::Tuple;
 use zookie::Zookie;

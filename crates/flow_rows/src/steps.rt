@@ -3,8 +3,8 @@
 use crate::plays::Playing;
 use crate::texts::{care, command, flushed, number, refusal, request, two_numbers};
 use device::Device;
-use script_text::Command;
 use names::NodeName;
+use script_text::Command;
 use std::alloc::Global;
 use tuples::{Refusal, Request};
 

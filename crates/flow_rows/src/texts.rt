@@ -1,7 +1,7 @@
 // The words of a step.
 use crate::stores::{STORE, shards};
-use script_text::Command;
 use names::{Care, NodeName};
+use script_text::Command;
 use std::alloc::Global;
 use tuples::{Refusal, Request, Write};
 

@@ -6,8 +6,8 @@
 mod opening;
 mod row;
 
-use script_text::Printed;
 use row::Row;
+use script_text::Printed;
 use std::alloc::{AllocError, Global};
 use std::io::{self, Read, Write};
 use tuples::Refusal;

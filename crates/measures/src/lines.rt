@@ -1,6 +1,6 @@
 // How many request lines a session answers, over memory, if what it asks costs nothing.
 use crate::timing::{now, print_since};
-use answers::{Events, Membership, Rows, Written};
+use json_lines::{Events, Membership, Rows, Written};
 use sessions::{Answers, serve_stream};
 use std::alloc::{AllocError, Global};
 use std::rt::Clock;

@@ -12,8 +12,8 @@ use Rattle.refusal.specs.declared.refusal.Refusal.{Refusal}
 use Rattle.refusal.specs.declared.refusal.Refusal.TheVariants.{BadRequest, TooLarge, Repeated, NoMemory}
 use Rattle.tuples.specs.declared.tupleset.Tupleset.{Tupleset}
 use Rattle.tuples.proofs.Lists.{tails}
-use Rattle.requests.specs.Causes.{AreSets, ListCause}
-use Rattle.requests.specs.Spelling.{IsMisspelled}
+use Rattle.json_lines.specs.Causes.{AreSets, ListCause}
+use Rattle.json_lines.specs.Spelling.{IsMisspelled}
 use Rattle.script_text.specs.Causes.{AreFew, HaveNoShape, IsAsked, ShapeCause, WordsCause, WriteCause}
 use Rattle.script_text.specs.declared.command.Command.{Command}
 use Rattle.script_text.specs.declared.command.Command.TheVariants as command

@@ -13,8 +13,8 @@ use Rattle.tuples.specs.Changes.{changed, conditioned, tuple_of}
 use Rattle.tuples.specs.Texts.{IsTuple}
 use Rattle.script_text.specs.Texts.{IsWanted, change_text, condition_text}
 use Rattle.script_text.specs.Words.{AreChanges, AreConditions, AsksNothing, HasConditionShape, IsAskedOf, IsChangeOf, IsConditionOf}
-use Rattle.requests.specs.Spelling.{IsMisspelled}
-use Rattle.requests.proofs.Spelled.{value_at}
+use Rattle.json_lines.specs.Spelling.{IsMisspelled}
+use Rattle.json_lines.proofs.Spelled.{value_at}
 
 -- what holds of each changed tuple holds of the tuple of each change
 pub each_change : (P : Tuple → Type 0) (cs : List Change) → All P (changed cs) → All (λ c. P (tuple_of c)) cs

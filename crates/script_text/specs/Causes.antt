@@ -10,7 +10,7 @@ use Rattle.tuples.specs.Texts.{IsTuple, tuple_text}
 use Rattle.tuples.specs.Limits.{max_changes, max_conditions, max_line}
 use Rattle.refusal.specs.declared.refusal.Refusal.{Refusal}
 use Rattle.refusal.specs.declared.refusal.Refusal.TheVariants.{BadRequest, BadTuple, TooLarge, Repeated, NoMemory}
-use Rattle.requests.specs.Causes.{AreSets, ListCause}
+use Rattle.json_lines.specs.Causes.{AreSets, ListCause}
 use Rattle.script_text.specs.declared.command.Command.{Command}
 use Rattle.script_text.specs.Lines.{IsFree, SpellsWords}
 use Rattle.script_text.specs.Shapes.{Fresh, HasShape, Shape, at_least, check, exact, latest, read, watch, write}

@@ -11,8 +11,8 @@ use Rattle.tuples.specs.declared.tuple.Tuple.{Tuple}
 use Rattle.tuples.specs.declared.version.Version.{Version}
 use Rattle.tuples.specs.Texts.{tuple_text}
 use Rattle.zookie.specs.Zookies.{zookie_text}
-use Rattle.answers.specs.declared.answer.Answer.{Answer}
-use Rattle.answers.specs.declared.answer.Answer.TheVariants as answer
+use Rattle.json_lines.specs.declared.answer.Answer.{Answer}
+use Rattle.json_lines.specs.declared.answer.Answer.TheVariants as answer
 use Rattle.script_text.specs.declared.printed.Printed.{Printed}
 use Rattle.script_text.specs.declared.printed.Printed.TheVariants as printed
 

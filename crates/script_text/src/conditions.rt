@@ -1,7 +1,7 @@
 // Conditions, as `doc:a#lock@lock=3`, `?doc:a#viewer@ann` or `!doc:a#viewer@ann`.
 ghost use Rattle.std.specs.Prelude.{◌≡◌, ◌∷◌, ◌++◌, ◌↔◌, All, IsTrue, MatchOption, MatchResult, map};
 ghost use Rattle.tuples.specs.Parsing.{Lacks};
-ghost use Rattle.requests.specs.Spelling.{IsMisspelled};
+ghost use Rattle.json_lines.specs.Spelling.{IsMisspelled};
 ghost use Rattle.script_text.specs.Words.{AreConditions, AsksNothing, HasConditionShape, IsAskedOf, IsConditionOf, IsPlacedOf, NamesNoPlace};
 
 use crate::numbers::parse_place;

@@ -1,7 +1,7 @@
 // The places of a request, from its tokens.
 ghost use Rattle.std.specs.Prelude.{◌≡◌, ◌<◌, ◌^◌, MatchResult};
 ghost use Rattle.zookie.specs.Zookies.{zookie_text};
-ghost use Rattle.requests.specs.Spelling.{IsUnread};
+ghost use Rattle.json_lines.specs.Spelling.{IsUnread};
 ghost use Rattle.script_text.specs.Causes.{IsFresh};
 ghost use Rattle.script_text.specs.Shapes.{fresh_view, fresh_word};
 ghost use Rattle.script_text.specs.Texts.{IsFreshness, fresh_text};

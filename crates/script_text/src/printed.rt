@@ -1,11 +1,11 @@
 // What a line of a script prints.
 ghost use Rattle.std.specs.Prelude.{◌≡◌, ◌<◌, ◌≤◌, ◌+◌, ◌++◌, false, OnOk, OnErr, length, vec_capacity, vec_len};
-ghost use Rattle.answers.specs.Grown.{Grown};
+ghost use Rattle.json_lines.specs.Grown.{Grown};
 ghost use Rattle.script_text.specs.PrintedTexts.{answer_text, membership_word, named_line, printed_text, refusal_line, resolved_line};
 
 use crate::printed_lists::{push_sets, push_versions};
 use crate::printed_parts::{push_id, push_told};
-use answers::{Answer, Text};
+use json_lines::{Answer, Text};
 use std::alloc::AllocError;
 use tuples::{Refusal, Version, WriteId};
 

@@ -1,11 +1,11 @@
 // Lists of tuples and of versions, a line each.
 ghost use Rattle.std.specs.Prelude.{map};
 ghost use Rattle.std.specs.List.{flat_map};
-ghost use Rattle.answers.specs.Grown.{Grown};
+ghost use Rattle.json_lines.specs.Grown.{Grown};
 ghost use Rattle.script_text.specs.PrintedTexts.{row_line, row_lines, version_line};
 
 use crate::printed_parts::{push_change, push_tuple};
-use answers::Text;
+use json_lines::Text;
 use tuples::{Tuple, Version};
 
 fn push_version(out: &mut Text<'_>, version: &Version)

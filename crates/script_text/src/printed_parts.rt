@@ -1,9 +1,9 @@
 // The parts of a line.
 ghost use Rattle.tuples.specs.Texts.{object_text, tuple_text, user_text};
-ghost use Rattle.answers.specs.Grown.{Grown};
+ghost use Rattle.json_lines.specs.Grown.{Grown};
 ghost use Rattle.script_text.specs.PrintedTexts.{change_text, id_text, told_line};
 
-use answers::Text;
+use json_lines::Text;
 use tuples::{Change, Object, Tuple, User, WriteId};
 use zookie::Zookie;
 

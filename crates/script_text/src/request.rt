@@ -5,7 +5,7 @@ ghost use Rattle.tuples.specs.declared.tupleset.Tupleset.{Tupleset as AnySet};
 ghost use Rattle.tuples.specs.Changes.{IsWrite};
 ghost use Rattle.tuples.specs.Names.{IsName};
 ghost use Rattle.tuples.specs.Texts.{IsTuple, tuple_text};
-ghost use Rattle.requests.specs.Causes.{AreSets, ListCause};
+ghost use Rattle.json_lines.specs.Causes.{AreSets, ListCause};
 ghost use Rattle.script_text.specs.Causes.{IsFresh, ShapeCause, WriteCause};
 ghost use Rattle.script_text.specs.Lines.{SpellsRequest};
 ghost use Rattle.script_text.specs.Shapes.{IsShaped, check, fresh_view, read, shape_view, shape_words, watch};

@@ -1,8 +1,8 @@
 // The changes, tuplesets and namespaces of a request, from their texts.
 ghost use Rattle.std.specs.Prelude.{◌≡◌, All, MatchResult};
 ghost use Rattle.tuples.specs.Names.{IsName};
-ghost use Rattle.requests.specs.Causes.{AreSets};
-ghost use Rattle.requests.specs.Spelling.{IsMisspelled};
+ghost use Rattle.json_lines.specs.Causes.{AreSets};
+ghost use Rattle.json_lines.specs.Spelling.{IsMisspelled};
 ghost use Rattle.script_text.specs.Words.{AreChanges, IsChangeOf, texts as texts_of};
 
 use std::alloc::Global;

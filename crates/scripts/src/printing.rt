@@ -4,9 +4,9 @@ ghost use Rattle.std.specs.List.{flat_map};
 ghost use Rattle.scripts.specs.Scripts.{resharded_text};
 ghost use Rattle.scripts.specs.Telling.{done_line, end_text, resolved_text, told_text};
 
-use answers::{Answer, Events, Membership, Rows, Written};
 use care_flow::Resolved;
 use cluster::What;
+use json_lines::{Answer, Events, Membership, Rows, Written};
 use script_text::Printed;
 use std::alloc::AllocError;
 use tuples::Refusal;

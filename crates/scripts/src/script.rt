@@ -9,8 +9,7 @@ ghost use Rattle.scripts.specs.Scripts.{CarriesOut, IsAmong};
 
 use crate::Store;
 use crate::running::Running;
-use script_text::Command;
-use script_text::Printed;
+use script_text::{Command, Printed};
 use std::alloc::{AllocError, Global};
 use std::marker::Model;
 use tuples::Refusal;

@@ -4,7 +4,7 @@ use Rattle.refusal.specs.declared.refusal.Refusal.{Refusal}
 use Rattle.tuples.specs.declared.entry.Entry.{Entry}
 use Rattle.tuples.specs.declared.request.Request.{Request}
 use Rattle.published.specs.Known.{Known}
-use Rattle.answers.specs.declared.answer.Answer.{Answer}
+use Rattle.json_lines.specs.declared.answer.Answer.{Answer}
 use Rattle.sides.specs.Sides.{IsLater}
 use Rattle.server.specs.Answered.{Answered, IsAnswerTo, IsRefusalTo, SessionValue}
 

@@ -12,8 +12,8 @@ use Rattle.commit_flow.specs.declared.end.WriteEnd.TheVariants.{Refused, Wrote}
 use Rattle.answer_flow.specs.CheckViews.{checked, refused as check_refused}
 use Rattle.answer_flow.specs.ReadViews.{refused as read_refused, rows_of, selected}
 use Rattle.answer_flow.specs.WatchViews.{listed, refused as watch_refused}
-use Rattle.answers.specs.declared.answer.Answer.{Answer}
-use Rattle.answers.specs.declared.answer.Answer.TheVariants as answer
+use Rattle.json_lines.specs.declared.answer.Answer.{Answer}
+use Rattle.json_lines.specs.declared.answer.Answer.TheVariants as answer
 use Rattle.sides.specs.Sides.{IsLater}
 use Rattle.locked.specs.Answering.{CheckEnds, CheckIsKept, CheckRefuses, IsJustOne, ReadEnds, ReadIsKept, ReadRefuses, WatchEnds, WatchIsKept, WatchRefuses}
 use Rattle.locked.specs.Writing.{WriteEnds, WriteRefuses}

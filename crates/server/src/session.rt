@@ -4,10 +4,10 @@ ghost use Rattle.server.specs.Answered.{Answered};
 
 use crate::share::Share;
 use answer_flow::{CheckEnd, ReadEnd, WatchEnd};
-use answers::{Events, Membership, Rows, Written};
 use calls::Told;
 use commit_flow::WriteEnd;
 use device::Device;
+use json_lines::{Events, Membership, Rows, Written};
 use locked::{Caller, Gate, Store};
 use sessions::Answers;
 use sides::Room;

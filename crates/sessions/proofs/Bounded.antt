@@ -1,7 +1,7 @@
 -- What one call leaves.
 use Rattle.std.proofs.Common.{arith, ◌≡◌, ℕ, true, false, List, [], ◌++◌, refl, sym, subst, inl, inr, Result, Ok, Err, OnOk, OnErr}
 use Rattle.refusal.specs.declared.refusal.Refusal.{Refusal}
-use Rattle.answers.specs.declared.answer.Answer.{Answer}
+use Rattle.json_lines.specs.declared.answer.Answer.{Answer}
 use Rattle.std.specs.Prelude.{◌⊎◌}
 use Rattle.sessions.specs.Bounds.{IsBounded}
 use Rattle.sessions.specs.Machines.{AnswersLine}

@@ -5,7 +5,7 @@ use Rattle.std.proofs.lemmas.List.Elements.{All-nil, All-push}
 use Rattle.std.specs.Io.KnownBytes.{Appends, Consumes, IsAtEnd}
 use Rattle.std.specs.Prelude.{◌⊎◌, ◌≢◌, Result}
 use Rattle.refusal.specs.declared.refusal.Refusal.{Refusal}
-use Rattle.answers.specs.declared.answer.Answer.{Answer}
+use Rattle.json_lines.specs.declared.answer.Answer.{Answer}
 use Rattle.line_io.specs.Blocks.{TakesPart}
 use Rattle.line_io.specs.declared.line.Line.{Line}
 use Rattle.line_io.specs.Lines.{HasNoFeed, Holds}

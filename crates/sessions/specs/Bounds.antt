@@ -1,7 +1,7 @@
 -- How much waits to be written.
 use Rattle.std.specs.Prelude.{◌≡◌, ◌<◌, ◌⊎◌, ℕ, List, [], ◌++◌, length, Result}
 use Rattle.refusal.specs.declared.refusal.Refusal.{Refusal}
-use Rattle.answers.specs.declared.answer.Answer.{Answer}
+use Rattle.json_lines.specs.declared.answer.Answer.{Answer}
 use Rattle.sessions.specs.Sessions.{reply_line}
 
 -- less than a block, and one answer at most

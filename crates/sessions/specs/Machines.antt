@@ -1,7 +1,7 @@
 -- What a session holds between two calls, and what that is of its lines and their answers.
 use Rattle.std.specs.Prelude.{◌≡◌, ◌⊎◌, ℕ, Bool, true, false, List, [], ◌++◌, flat_map, take, All, Option, Some, None, Result}
 use Rattle.refusal.specs.declared.refusal.Refusal.{Refusal}
-use Rattle.answers.specs.declared.answer.Answer.{Answer}
+use Rattle.json_lines.specs.declared.answer.Answer.{Answer}
 use Rattle.line_io.specs.declared.held.Block.{Block}
 use Rattle.line_io.specs.declared.line.Line.{Line}
 use Rattle.line_io.specs.Blocks.{unread}

@@ -8,11 +8,11 @@ use Rattle.tuples.specs.Limits.{max_line}
 use Rattle.refusal.specs.declared.refusal.Refusal.{Refusal}
 use Rattle.refusal.specs.declared.refusal.Refusal.TheVariants.{TooLarge}
 use Rattle.tuples.specs.declared.request.Request.{Request}
-use Rattle.requests.specs.Causes.{Cause}
-use Rattle.requests.specs.Lines.{IsObject, Spells}
-use Rattle.requests.specs.Shapes.{Field}
-use Rattle.answers.specs.declared.answer.Answer.{Answer}
-use Rattle.answers.specs.Texts.{answer_line, refusal_line}
+use Rattle.json_lines.specs.Causes.{Cause}
+use Rattle.json_lines.specs.Lines.{IsObject, Spells}
+use Rattle.json_lines.specs.Shapes.{Field}
+use Rattle.json_lines.specs.declared.answer.Answer.{Answer}
+use Rattle.json_lines.specs.Texts.{answer_line, refusal_line}
 use Rattle.line_io.specs.Lines.{HasNoFeed, unended_refusal}
 use Rattle.line_io.specs.Outputs.{HasBegun}
 

@@ -1,11 +1,11 @@
 // What answers the requests of a session.
 ghost use Rattle.std.specs.Prelude.{◌≡◌, Result, ℕ};
-ghost use Rattle.answers.specs.declared.answer.Answer.{Answer as AnyAnswer};
+ghost use Rattle.json_lines.specs.declared.answer.Answer.{Answer as AnyAnswer};
 ghost use Rattle.refusal.specs.declared.refusal.Refusal.{Refusal as AnyRefusal};
 ghost use Rattle.tuples.specs.declared.request.Request.{Request as AnyRequest};
 ghost use Rattle.sessions.specs.Sessions.{told};
 
-use answers::{Answer, Events, Membership, Rows, Written};
+use json_lines::{Answer, Events, Membership, Rows, Written};
 use tuples::{Freshness, Namespace, Refusal, Request, Tuple, Tupleset, Write};
 
 /// What answers the requests of one store, one call for each op.

@@ -4,9 +4,8 @@ ghost use Rattle.line_io.specs.Lines.{Holds};
 ghost use Rattle.sessions.specs.Sessions.{RepliesTo, reply_line};
 
 use crate::asking::{Answers, ask};
-use answers::{Answer, write_refusal};
+use json_lines::{Answer, parse_request, write_refusal};
 use line_io::Line;
-use requests::parse_request;
 use std::alloc::{AllocError, Global};
 use tuples::Refusal;
 

@@ -4,7 +4,7 @@ ghost use Rattle.sessions.specs.Sessions.{reply_line};
 ghost use Rattle.sessions.specs.Bounds.{IsBounded};
 
 use crate::reply::write_reply;
-use answers::Answer;
+use json_lines::Answer;
 use line_io::BLOCK;
 use refusal::Refusal;
 use std::alloc::{AllocError, Global};

@@ -1,5 +1,5 @@
 // The touches of the writes so far, each at its write's place.
-use answers::{Events, Membership, Rows, Written};
+use json_lines::{Events, Membership, Rows, Written};
 use sessions::Answers;
 use std::alloc::{AllocError, Global};
 use tuples::{

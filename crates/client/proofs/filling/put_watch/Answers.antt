@@ -1,5 +1,5 @@
 use Rattle.std.proofs.Common.{codes, ◌∷◌, ap, List, ℕ, subst, ◌≡◌}
-use Rattle.requests.specs.Shapes.{members_with, texts_json, watch_with}
+use Rattle.json_lines.specs.Shapes.{members_with, texts_json, watch_with}
 use Rattle.serde_json.specs.Data.{no_members}
 use Rattle.serde_json.specs.View.{members_view}
 use Rattle.client.specs.Forms.{watches}

@@ -1,6 +1,6 @@
 use Rattle.std.proofs.Common.{◌++◌, ◌∷◌, []}
 use Rattle.std.proofs.lemmas.List.{take_rest}
-use Rattle.requests.proofs.Values.{map_more}
+use Rattle.json_lines.proofs.Values.{map_more}
 use Rattle.client.specs.Forms.{changed_json, changed_word}
 use Rattle.client.specs.Reading.{change_view}
 use Rattle.client.proofs.Cuts.{behind_changes, begins_no_change, pushed}

@@ -1,6 +1,6 @@
 use Rattle.std.proofs.Common.{inr, ◌++◌, ◌∷◌, []}
 use Rattle.std.proofs.lemmas.List.Elements.{All-push}
-use Rattle.requests.proofs.Values.{map_more}
+use Rattle.json_lines.proofs.Values.{map_more}
 use Rattle.client.specs.Forms.{IsAsked, asked_json, asked_word}
 use Rattle.client.specs.Reading.{condition_view}
 use Rattle.client.proofs.Cuts.{no_condition_at, pushed}

@@ -10,7 +10,7 @@ use Rattle.script_text.specs.Texts.{IsWanted, condition_text}
 use Rattle.script_text.specs.Words.{AreWanted}
 use Rattle.script_text.proofs.Parts.{conditions_refused}
 use Rattle.script_text.proofs.conditions.parse_conditions.Goals as goal
-use Rattle.requests.proofs.Values.{map_more}
+use Rattle.json_lines.proofs.Values.{map_more}
 
 pub returns-in_err-parse_condition : goal.returns-in_err-parse_condition
 returns-in_err-parse_condition c =

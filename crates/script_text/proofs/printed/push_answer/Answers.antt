@@ -1,6 +1,6 @@
 use Rattle.std.proofs.Common.{ap, map, sym, ◌∙◌, List, ℕ}
 use Rattle.std.specs.List.{flat_map}
-use Rattle.answers.proofs.Growing.{grown_as, grown_then}
+use Rattle.json_lines.proofs.Growing.{grown_as, grown_then}
 use Rattle.script_text.specs.PrintedTexts.{answer_text, row_lines, told_line, version_line}
 use Rattle.script_text.proofs.printed.push_answer.Goals as goal
 

@@ -1,5 +1,5 @@
 use Rattle.std.proofs.Common.{ap, sym}
-use Rattle.answers.proofs.Growing.{grown_as, grown_then}
+use Rattle.json_lines.proofs.Growing.{grown_as, grown_then}
 use Rattle.script_text.specs.PrintedTexts.{printed_text}
 use Rattle.script_text.proofs.printed.push_printed.Goals as goal
 

@@ -1,6 +1,6 @@
 use Rattle.std.proofs.Common.{ap, ◌∙◌}
 use Rattle.std.specs.Fmt.{decimal}
-use Rattle.answers.proofs.Growing.{grown_as, grown_then}
+use Rattle.json_lines.proofs.Growing.{grown_as, grown_then}
 use Rattle.script_text.proofs.printed.push_refusal.Goals as goal
 
 pub returns : goal.returns

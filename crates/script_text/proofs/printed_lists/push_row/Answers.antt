@@ -1,4 +1,4 @@
-use Rattle.answers.proofs.Growing.{grown_then}
+use Rattle.json_lines.proofs.Growing.{grown_then}
 use Rattle.script_text.proofs.printed_lists.push_row.Goals as goal
 
 pub returns : goal.returns

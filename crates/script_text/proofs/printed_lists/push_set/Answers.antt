@@ -1,4 +1,4 @@
-use Rattle.answers.proofs.Growing.{grown_as, grown_then}
+use Rattle.json_lines.proofs.Growing.{grown_as, grown_then}
 use Rattle.script_text.specs.PrintedTexts.{row_line}
 use Rattle.script_text.proofs.Rows.{one_more}
 use Rattle.script_text.proofs.printed_lists.push_set.Goals as goal

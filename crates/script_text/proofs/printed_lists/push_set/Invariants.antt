@@ -1,6 +1,6 @@
 use Rattle.std.proofs.Common.{take}
 use Rattle.std.specs.List.{flat_map}
-use Rattle.answers.specs.Grown.{Grown}
+use Rattle.json_lines.specs.Grown.{Grown}
 use Rattle.script_text.specs.PrintedTexts.{row_line}
 use Rattle.script_text.proofs.printed_lists.push_set.Given as goal
 

@@ -1,5 +1,5 @@
 use Rattle.std.proofs.Common.{arith}
-use Rattle.answers.proofs.Growing.{grown_as, grown_then}
+use Rattle.json_lines.proofs.Growing.{grown_as, grown_then}
 use Rattle.script_text.proofs.Rows.{one_set_more}
 use Rattle.script_text.proofs.printed_lists.push_sets.Goals as goal
 

@@ -1,5 +1,5 @@
 use Rattle.std.proofs.Common.{◌≡◌, ◌+◌, map, take}
-use Rattle.answers.specs.Grown.{Grown}
+use Rattle.json_lines.specs.Grown.{Grown}
 use Rattle.script_text.specs.PrintedTexts.{row_lines}
 use Rattle.script_text.proofs.printed_lists.push_sets.Given as goal
 

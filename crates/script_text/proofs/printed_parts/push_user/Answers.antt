@@ -1,6 +1,6 @@
 use Rattle.std.proofs.Common.{ap, sym, ◌∙◌}
 use Rattle.tuples.specs.Texts.{user_text}
-use Rattle.answers.proofs.Growing.{grown_as, grown_then}
+use Rattle.json_lines.proofs.Growing.{grown_as, grown_then}
 use Rattle.script_text.proofs.printed_parts.push_user.Goals as goal
 
 pub returns-in-Id : goal.returns-in-Id

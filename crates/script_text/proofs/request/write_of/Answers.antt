@@ -6,7 +6,7 @@ use Rattle.script_text.specs.Texts.{change_text, condition_text}
 use Rattle.script_text.specs.Words.{texts}
 use Rattle.script_text.proofs.Causing.{changes_misspelled, conditions_misspelled, write_refused}
 use Rattle.script_text.proofs.request.write_of.Goals as goal
-use Rattle.requests.proofs.Causing.{in_limits}
+use Rattle.json_lines.proofs.Causing.{in_limits}
 
 pub returns-in_err-changes-clause-err : goal.returns-in_err-changes-clause-err
 returns-in_err-changes-clause-err c =

@@ -8,7 +8,7 @@ use Rattle.tuples.proofs.Kept.{valid_pushed}
 use Rattle.script_text.specs.Texts.{change_text}
 use Rattle.script_text.proofs.Parts.{changes_refused}
 use Rattle.script_text.proofs.texts.parse_changes.Goals as goal
-use Rattle.requests.proofs.Values.{map_more}
+use Rattle.json_lines.proofs.Values.{map_more}
 
 pub returns-in_err-parse_change : goal.returns-in_err-parse_change
 returns-in_err-parse_change c =

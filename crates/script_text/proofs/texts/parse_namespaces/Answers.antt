@@ -1,6 +1,6 @@
 use Rattle.std.proofs.Common.{arith}
 use Rattle.std.proofs.lemmas.Result.{err_from_is_err_and}
-use Rattle.requests.proofs.Spelled.{names_more, names_refused}
+use Rattle.json_lines.proofs.Spelled.{names_more, names_refused}
 use Rattle.script_text.proofs.texts.parse_namespaces.Goals as goal
 
 pub returns-in_err-parse : goal.returns-in_err-parse

@@ -2,7 +2,7 @@ use Rattle.std.proofs.Common.{arith, ap, Err}
 use Rattle.std.proofs.lemmas.Result.{err_from_is_err_and}
 use Rattle.tuples.specs.Texts.{IsTupleset, tupleset_text}
 use Rattle.refusal.specs.declared.refusal.Refusal.{Refusal}
-use Rattle.requests.proofs.Spelled.{misspelled, texts_more, texts_refused}
+use Rattle.json_lines.proofs.Spelled.{misspelled, texts_more, texts_refused}
 use Rattle.script_text.proofs.texts.parse_sets.Goals as goal
 
 pub returns-in_err-parse : goal.returns-in_err-parse

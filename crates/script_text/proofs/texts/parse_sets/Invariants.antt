@@ -1,5 +1,5 @@
 use Rattle.std.proofs.Common.{◌≡◌, ◌≤◌, take, length, vec_len, vec_capacity}
-use Rattle.requests.specs.Causes.{AreSets}
+use Rattle.json_lines.specs.Causes.{AreSets}
 use Rattle.script_text.specs.Words.{texts}
 use Rattle.script_text.proofs.texts.parse_sets.Given as goal
 

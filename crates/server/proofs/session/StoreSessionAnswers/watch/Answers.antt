@@ -1,5 +1,5 @@
 use Rattle.std.proofs.Common.{ℕ, Err, Ok, inr, subst}
-use Rattle.answers.specs.declared.answer.Answer.TheVariants as answer
+use Rattle.json_lines.specs.declared.answer.Answer.TheVariants as answer
 use Rattle.tuples.specs.declared.request.Request.TheVariants as requests
 use Rattle.server.specs.Answered.{Answered, SessionValue}
 use Rattle.server.proofs.Answering.{what_is_found_answers}

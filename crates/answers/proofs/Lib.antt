@@ -1,4 +1,0 @@
-pub mod Escapes
-pub mod Growing
-pub mod Listed
-pub mod Wholes

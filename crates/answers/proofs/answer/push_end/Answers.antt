@@ -1,5 +1,0 @@
-use Rattle.answers.proofs.Growing.{grown_then}
-use Rattle.answers.proofs.answer.push_end.Goals as goal
-
-pub returns : goal.returns
-returns c = grown_then c.push_zookie.ensures c.push.ensures

@@ -1,6 +1,0 @@
-use Rattle.answers.specs.Listing.{Listing}
-use Rattle.answers.specs.Texts.{set_json}
-use Rattle.answers.proofs.lists.push_sets.Given as goal
-
-abbrev pub invariant-loop-tuples : goal.invariant-loop-tuples
-invariant-loop-tuples l = Listing set_json l.fn.sets l.tuples-index l.is_later l.fn.out l.out

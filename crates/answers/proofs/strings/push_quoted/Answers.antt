@@ -1,5 +1,0 @@
-use Rattle.answers.proofs.Growing.{grown_then}
-use Rattle.answers.proofs.strings.push_quoted.Goals as goal
-
-pub returns : goal.returns
-returns c = grown_then c.push.ensures (grown_then c.push_escaped.ensures c.push-2.ensures)

@@ -1,3 +1,0 @@
-pub mod Texts
-pub mod Grown
-pub mod Listing

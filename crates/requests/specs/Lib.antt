@@ -1,5 +1,0 @@
-pub mod Shapes
-pub mod Lines
-pub mod Causes
-pub mod Spelling
-pub mod Laws
