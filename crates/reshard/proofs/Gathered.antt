@@ -3,7 +3,7 @@ use Rattle.std.proofs.Common.{◌≡◌, ◌++◌, ◌+◌, ◌∷◌, [], ℕ, 
 use Rattle.calls.specs.Views.{NodeView}
 use Rattle.device.specs.Device.{State}
 use Rattle.tuples.specs.declared.version.Version.{Version}
-use Rattle.merging.specs.Merging.{all_of}
+use Rattle.reshard.specs.Merging.{all_of}
 use Rattle.reshard.specs.Gathering.{TellAll, TellsShard}
 
 all_then : (lists : List (List Version)) (more : List Version) → all_of (lists ++ more ∷ []) ≡ all_of lists ++ more

@@ -1,3 +1,7 @@
+pub mod Ranked
+pub mod Merged
+pub mod Picked
+mod Owned
 pub mod Caring
 pub mod Down
 pub mod Gathered

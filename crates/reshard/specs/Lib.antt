@@ -4,3 +4,6 @@ pub mod Gathering
 pub mod Made
 pub mod Refusing
 pub mod Written
+pub mod Merging
+pub mod Picking
+pub mod Memories

@@ -3,7 +3,7 @@ ghost use Rattle.std.specs.Prelude.{◌≡◌, ◌⊎◌, ◌≤◌, ◌<◌, �
 ghost use Rattle.journal.specs.Ahead.{checkpoint_of};
 ghost use Rattle.journal.specs.Beginnings.{BegunView};
 ghost use Rattle.journal.specs.Records.{HasRecords};
-ghost use Rattle.merging.specs.Merging.{merged};
+ghost use Rattle.reshard.specs.Merging.{merged};
 ghost use Rattle.records.specs.Format.{AreRecords};
 ghost use Rattle.replay.specs.Checkpoints.{row_of};
 ghost use Rattle.reshard.specs.Made.{AreHonest, HasLog, HaveShards, heads_of, shard_first};
@@ -11,11 +11,12 @@ ghost use Rattle.reshard.specs.Refusing.{LacksLog};
 ghost use Rattle.reshard.specs.Written.{EndsFirst, EndsLast, HasTried, KeepsFirst};
 ghost use Rattle.tuples.specs.Versions.{of_shard};
 
+use crate::rows::Rows;
+use crate::told::Told;
 use calls::Reach;
 use cluster::World;
 use device::Device;
 use journal::Begun;
-use merging::{Rows, Told};
 use names::NodeName;
 use records::{Identity, PlacedIds, Record};
 use std::alloc::Global;

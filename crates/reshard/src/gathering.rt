@@ -1,13 +1,13 @@
 // The versions of all shards of the old store, where they lie.
 ghost use Rattle.std.specs.Prelude.{◌≡◌, ◌++◌, ◌∷◌, ◌⊎◌, ℕ, [], List, OnOk, IfErr, IfOk, MatchResult};
-ghost use Rattle.merging.specs.Merging.{all_of, merged};
+ghost use Rattle.reshard.specs.Merging.{all_of, merged};
 ghost use Rattle.reshard.specs.Gathering.{AreGathered, IsKnownOf, TellAll, TellsShard};
 ghost use Rattle.reshard.specs.Refusing.{TellsNot};
 ghost use Rattle.tuples.specs.declared.version.Version.{Version as AnyVersion};
 
+use crate::rows::Rows;
 use cluster::World;
 use device::Device;
-use merging::Rows;
 use names::NodeName;
 use replay::Memory;
 use std::alloc::Global;

@@ -13,7 +13,7 @@ use Rattle.reshard_laws.proofs.Words.{AreAlike, of_tuple, RisesFrom, Tuple, tupl
 use Rattle.tuples.specs.Order.{tuple_cmp, tuple_eq}
 use Rattle.tuples.proofs.Ordered.{tuple_total}
 use Rattle.versions.specs.Rows.{version_cmp}
-use Rattle.merging.proofs.Ranked.{Ranked, ranked, ranked_filter}
+use Rattle.reshard.proofs.Ranked.{Ranked, ranked, ranked_filter}
 
 -- each place is above the one before
 abbrev pub Strict : ℕ → List Version → Type 0

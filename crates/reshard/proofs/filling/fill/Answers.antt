@@ -1,6 +1,6 @@
 use Rattle.std.proofs.Common.{inl, inr, ℕ, subst}
 use Rattle.std.proofs.lemmas.Result.{on_ok_weaker}
-use Rattle.merging.specs.Merging.{merged}
+use Rattle.reshard.specs.Merging.{merged}
 use Rattle.reshard.specs.Made.{AreHonest, HaveShards}
 use Rattle.reshard.specs.Written.{EndsLast}
 use Rattle.reshard.proofs.Written.{ends_last, on_ok_always}

@@ -2,7 +2,7 @@ use Rattle.std.proofs.Common.{◌+◌, ◌<◌, get_or, length, refl, ap, arith,
 use Rattle.journal.specs.Beginnings.{BegunView}
 use Rattle.journal.specs.Records.{HasRecords}
 use Rattle.records.specs.Identity.{Identity}
-use Rattle.merging.specs.Merging.{merged}
+use Rattle.reshard.specs.Merging.{merged}
 use Rattle.reshard.specs.Made.{shard_first}
 use Rattle.reshard.proofs.Filled.{honest_kept, one_so_far}
 use Rattle.reshard.proofs.Written.{keeps_first_set}

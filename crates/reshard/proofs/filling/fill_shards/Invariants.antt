@@ -1,4 +1,4 @@
-use Rattle.merging.specs.Merging.{merged}
+use Rattle.reshard.specs.Merging.{merged}
 use Rattle.reshard.proofs.Filled.{SoFar}
 use Rattle.reshard.proofs.filling.fill_shards.Given as goal
 

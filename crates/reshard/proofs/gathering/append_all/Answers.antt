@@ -1,5 +1,5 @@
 use Rattle.std.proofs.Common.{ap}
-use Rattle.merging.specs.Merging.{all_of}
+use Rattle.reshard.specs.Merging.{all_of}
 use Rattle.reshard.proofs.Gathered.{one_shard}
 use Rattle.reshard.proofs.gathering.append_all.Goals as goal
 

@@ -1,4 +1,4 @@
-use Rattle.merging.specs.Merging.{all_of}
+use Rattle.reshard.specs.Merging.{all_of}
 use Rattle.reshard.specs.Gathering.{TellAll}
 use Rattle.reshard.proofs.gathering.append_all.Given as goal
 

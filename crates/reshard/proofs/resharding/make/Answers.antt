@@ -1,7 +1,7 @@
 use Rattle.std.proofs.Common.{arith}
 use Rattle.std.proofs.lemmas.Result.{on_ok_weaker}
 use Rattle.std.proofs.lemmas.List.{nil_from_length}
-use Rattle.merging.specs.Merging.{merged}
+use Rattle.reshard.specs.Merging.{merged}
 use Rattle.reshard.proofs.Founded.{made}
 use Rattle.reshard.specs.Written.{AreLeft}
 use Rattle.reshard.proofs.Written.{left_over, on_err_always, written_in_order}

@@ -1,7 +1,7 @@
 use Rattle.std.proofs.Common.{◌≡◌, ◌⊎◌, ◌+◌, ◌++◌, ◌∙◌, All, inr, length, take, drop, sym, subst, arith}
 use Rattle.std.proofs.lemmas.Result.{IfErr-weaker, err_from_is_err_and, on_ok_weaker}
 use Rattle.cluster.proofs.Places.{whole}
-use Rattle.merging.specs.Merging.{merged}
+use Rattle.reshard.specs.Merging.{merged}
 use Rattle.refusal.specs.declared.refusal.Refusal.TheVariants.{Down, NoMemory}
 use Rattle.reshard.specs.Made.{AreHonest, HasLog, HaveShards}
 use Rattle.reshard.specs.Refusing.{IsNotWritten, LacksLog}

@@ -1,4 +1,0 @@
-pub mod Ranked
-pub mod Merged
-pub mod Picked
-mod Owned

@@ -1,5 +1,0 @@
-use Rattle.std.proofs.Common.{rules}
-use Rattle.merging.proofs.own.is_lower.Goals as goal
-
-pub returns-in-Some-Some : goal.returns-in-Some-Some
-returns-in-Some-Some c = search rules
