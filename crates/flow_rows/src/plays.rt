@@ -213,6 +213,20 @@ impl<D: Device> Playing<D> {
         }
         Ok(())
     }
+
+    fn into_log(self) -> String {
+        let Playing {
+            store,
+            writes,
+            questions,
+            told: _,
+            log,
+        } = self;
+        drop(store);
+        drop(writes);
+        drop(questions);
+        log
+    }
 }
 
 /// The calls that the flows of a row made, and how each that was run to its end ended.
@@ -228,6 +242,8 @@ pub(crate) fn play<D: Device>(
         told: Told::new(),
         log: String::new(alloc),
     };
-    playing.steps(alloc, row)?;
-    Ok(playing.log)
+    let played = playing.steps(alloc, row);
+    let log = playing.into_log();
+    played?;
+    Ok(log)
 }
