@@ -2,7 +2,7 @@
 //!
 //! Keeps: nobody is served before each node was opened and looked over, each shard has learned what is kept, and the address was bound; `ready` is printed once all its threads run after that,
 //! and not before.
-//! Never: answers from what an earlier request has found: each worker answers by a session over the one store, which goes on knowing what was seen.
+//! Never: answers from what an earlier request has found: each connection has a session of its own over the one store, which goes on knowing what was seen.
 //! Callers rely on: the status, 0 if as many connections as were asked for came and were served, and 1 after a fault, once standard error is told of it.
 //!
 //! What each answer line says is the contract of `serve_one` (`serving`) at a session of the store (`StoreSession`): the definition's value on the list that
@@ -19,6 +19,7 @@
 
 mod down;
 mod fault;
+mod fork;
 mod found;
 mod hanging;
 mod learning;

@@ -1,16 +1,16 @@
 // An open store is looked over, and served while it is tended.
 ghost use Rattle.locked.specs.Looking.{AreOfOneStore};
 ghost use Rattle.locked.specs.Opening.{HasFound};
-ghost use Rattle.std.specs.Prelude.{◌≡◌, ◌⊎◌, ◌≤◌, ◌*◌, None, Some, All, IfErr, IfOk, length, vec_len};
+ghost use Rattle.std.specs.Prelude.{◌≡◌, ◌⊎◌, ◌≤◌, ◌*◌, None, Some, IfErr, IfOk, length, vec_len};
 
 use crate::down::{DownNodes, NodeLines};
 use crate::fault::{Fault, tell};
+use crate::fork::StoreFork;
 use crate::found::Found;
 use crate::learning::{apart, blamed, learn_all};
 use crate::progress::Progress;
 use crate::readiness::Readiness;
 use crate::reporter::Reporter;
-use crate::session::StoreSession;
 use crate::share::{MIB, Share};
 use crate::start::{Start, tell_start};
 use calls::Told;
@@ -131,42 +131,25 @@ fn ended(rt: &impl Eprint, served: io::Result<()>) -> u8
     }
 }
 
-// A new caller, which knows what the first one does.
-fn later_caller<D: Device, B: Room, G: Gate, R: Wait>(
-    rt: &R,
-    store: &Store<D, B, G>,
-    first: &mut Caller<B>,
-) -> Caller<B>
-    requires found { B.rests → HasFound B.first B.low first.old.pass }
-    ensures found { B.rests → HasFound B.first B.low first.new.pass }
-    ensures told { B.rests → HasFound B.first B.low result.pass }
-{
-    let mut caller = store.session(rt);
-    store.tell(first, &mut caller);
-    caller
-}
-
-// A session for each worker, each of which answers of what was found and of what joins it.
-fn sessions<'a, D: Device, B: Room, G: Gate, R: Wait>(
+// What gives each worker's connections their sessions, each of which answers of what was found and of what joins it.
+fn forks<'a, D: Device, B: Room, G: Gate, R: Wait>(
     rt: &'a R,
     alloc: Global,
     store: &'a Store<D, B, G>,
     first: &mut Caller<B>,
     settings: &ServeSettings,
     share: &'a Share,
-) -> Result<Vec<StoreSession<'a, D, B, G, R>>, AllocError>
+) -> Result<Vec<StoreFork<'a, D, B, G, R>>, AllocError>
     requires of { settings.now.store ≡ B.store }
     requires found { B.rests → HasFound B.first B.low first.old.pass }
     ensures count { IfOk result (λ made. vec_len made ≡ settings.now.workers) }
-    ensures told { IfOk result (λ made. All (λ session. B.rests → HasFound B.first B.low session.known) made.items) }
 {
-    let mut sessions = Vec::new(alloc);
+    let mut forks = Vec::new(alloc);
     for _ in 0..settings.workers {
-        sessions.reserve(1)?;
-        let caller = later_caller(rt, store, first);
-        sessions.push_reserved(StoreSession::new(rt, alloc, store, settings.store, caller, share));
+        forks.reserve(1)?;
+        forks.push_reserved(StoreFork::new(rt, alloc, store, settings.store, first, share));
     }
-    Ok(sessions)
+    Ok(forks)
 }
 
 // How the sessions are served.
@@ -214,7 +197,7 @@ where
 {
     let share = Share::of(settings);
     let share = &share;
-    let sessions = sessions(rt, alloc, store, first, settings, share)?;
+    let forks = forks(rt, alloc, store, first, settings, share)?;
     let listener = &start.listener;
     let serving = serving_of(settings);
     let window = window_of(settings);
@@ -243,7 +226,7 @@ where
             alloc,
             listener,
             &serving,
-            sessions,
+            forks,
             readiness,
             &mut reporter,
         );

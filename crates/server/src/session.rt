@@ -16,7 +16,7 @@ use std::marker::Model;
 use std::sync::Wait;
 use tuples::{Freshness, MAX_WATCHED, Namespace, Refusal, Tuple, Tupleset, Userset, Write};
 
-/// Answers the requests of one session after another over a store, for one caller, who goes on knowing what was seen. What a read or a check reads takes no
+/// Answers the requests of one connection over a store, for one caller, who goes on knowing what was seen. What a read or a check reads takes no
 /// more than the share, else it is refused with `NoMemory`. What nodes refuse is noted anew for each request.
 #[derive(Drop)]
 pub struct StoreSession<'a, D: Device, B: Room, G: Gate, R: Wait> {

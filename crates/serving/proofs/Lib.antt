@@ -1,3 +1,3 @@
-mod Joined
 mod Looked
+mod OneMore
 mod Prefixes

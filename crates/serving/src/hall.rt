@@ -1,5 +1,5 @@
 // What the threads of a server share: where connections wait, and what sessions are told.
-ghost use Rattle.std.specs.Prelude.{◌≡◌, ◌<◌, ◌^◌, ◌≤◌, ◌+◌, IfNone, ℕ};
+ghost use Rattle.std.specs.Prelude.{◌≡◌, ◌<◌, ◌^◌, ◌≤◌, ◌+◌, IfNone, IfSome, length, ℕ};
 ghost use Rattle.connections.specs.Ends.{IsWhole};
 ghost use Rattle.connections.specs.Numbers.{IsEach};
 
@@ -42,6 +42,7 @@ impl Hall {
     ) -> Option<TcpStream>
         requires queue { worker.old.queue ≡ self.now.queue }
         ensures pass { (worker.new.queue ≡ worker.old.queue) × (worker.new.passes ≡ worker.old.passes) × (worker.new.end ≡ worker.old.end) }
+        ensures some { IfSome result (λ stream. length worker.new.taken ≡ length worker.old.taken + 1) }
         ensures none { IfNone result (worker.new ≡ worker.old) }
         ensures each { IfNone result ((put : ℕ) → IsWhole worker.old put → IsEach put worker.old.taken) }
     {

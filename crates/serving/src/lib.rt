@@ -5,7 +5,7 @@
 //! Never: takes a line of a connection that begins as HTTP or TLS, nor writes to it. Never, but while it ends for a fault: cuts a session that was neither idle
 //! for the ticks that it may be, nor slow over a line or its answers for half a minute; one that may be idle for ever is cut only for answers that are not taken,
 //! or while the server closes.
-//! Callers rely on: a worker serves one connection at a time, from its first line to its last.
+//! Callers rely on: a worker serves one connection at a time, from its first line to its last, by a session that answers no other one.
 //!
 //! Only tested, over the program: that each connection that was taken is served, that sessions of several workers go on beside one another, what is reported, that it goes
 //! on short of descriptors, and that the server ends.
@@ -18,6 +18,7 @@ mod accepting;
 mod begun;
 mod crowd;
 mod ended;
+mod fork;
 mod gathering;
 mod guarded;
 mod guarding;
@@ -35,6 +36,7 @@ mod working;
 
 pub use begun::Begun;
 pub use ended::Ended;
+pub use fork::Fork;
 pub use guarded::Guarded;
 pub use patience::Patience;
 pub use patient::Patient;

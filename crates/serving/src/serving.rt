@@ -6,6 +6,7 @@ use crate::accepting::{Acceptor, let_tick};
 use crate::begun::Begun;
 use crate::crowd::Crowd;
 use crate::ended::Ended;
+use crate::fork::Fork;
 use crate::gathering::PassOf;
 use crate::hall::Hall;
 use crate::report::Report;
@@ -13,7 +14,6 @@ use crate::signs::Signs;
 use crate::working::Worker;
 use connections::{Connections, WorkerPass};
 use crossbeam_utils::sync::{Parker, Unparker};
-use sessions::Answers;
 use std::alloc::{AllocError, Global};
 use std::io::{self, ErrorKind};
 use std::net::{TcpListener, TcpStream};
@@ -31,23 +31,24 @@ pub struct Serving {
     pub connections: Option<u64>,
 }
 
-/// Serves connections of the listener, by a thread for each worker, until so many have come and are served. Each thread tells that it runs before it looks
-/// for a connection. An error of the listener, or one that the report gives, ends it once each session has answered the request that it is at, and is in what
-/// it gives back. However it ended then, the workers took each connection that was put, each once.
+/// Serves connections of the listener, by a thread for each worker, until so many have come and are served, each by a session of its own from its worker's
+/// fork. Each thread tells that it runs before it looks for a connection. An error of the listener, or one that the report gives, ends it once each session
+/// has answered the request that it is at, and is in what it gives back. However it ended then, the workers took each connection that was put, each once.
 /// It fails before it accepts any if there are no workers, if memory is refused, if the listener cannot tick, or if a thread cannot be made, and then not all
 /// have told that they run. Else it fails only if the workers left a connection.
-pub fn serve_on<R, A, T, N>(
+pub fn serve_on<R, F, T, N>(
     rt: &R,
     alloc: Global,
     listener: &TcpListener,
     serving: &Serving,
-    workers: Vec<A>,
+    workers: Vec<F>,
     begun: &T,
     report: &mut N,
 ) -> io::Result<Ended>
 where
     R: Threads + Wait + Clock + Sync,
-    A: Answers + Send + Drop,
+    F: Fork + Send + Drop,
+    F::Session: Send,
     T: Begun + Sync,
     N: Report,
     ensures workers { vec_len workers ≡ 0 → IsErr result }
@@ -72,13 +73,13 @@ where
 }
 
 // The workers with their passes, and what wakes each of them.
-fn equipped<'a, A: Answers + Drop>(
+fn equipped<'a, F: Fork + Drop>(
     alloc: Global,
     hall: &'a Hall,
     mut passes: Vec<WorkerPass<TcpStream>>,
-    workers: Vec<A>,
+    workers: Vec<F>,
     bells: &mut Vec<Unparker>,
-) -> Result<Vec<Worker<'a, A>>, AllocError>
+) -> Result<Vec<Worker<'a, F>>, AllocError>
     requires own { All (λ w. (w.queue ≡ hall.now.queue) × (w.passes ≡ 1) × (w.end ≡ None)) passes.items }
     requires count { vec_len passes ≡ vec_len workers }
     ensures workers { IfOk result (λ made. vec_len made ≡ vec_len workers) }
@@ -86,23 +87,23 @@ fn equipped<'a, A: Answers + Drop>(
     ensures bells { IfOk result (λ made. vec_len bells.new ≡ vec_len bells.old + vec_len workers) }
 {
     let mut equipped = Vec::new(alloc);
-    for answers in workers {
+    for fork in workers {
         let Some(pass) = passes.pop() else {
             unreachable!()
         };
-        equipped.push(equip(alloc, hall, pass, answers, bells)?)?;
+        equipped.push(equip(alloc, hall, pass, fork, bells)?)?;
     }
     Ok(equipped)
 }
 
 // A worker with its pass, and what wakes it.
-fn equip<'a, A: Answers + Drop>(
+fn equip<'a, F: Fork + Drop>(
     alloc: Global,
     hall: &'a Hall,
     pass: WorkerPass<TcpStream>,
-    answers: A,
+    fork: F,
     bells: &mut Vec<Unparker>,
-) -> Result<Worker<'a, A>, AllocError>
+) -> Result<Worker<'a, F>, AllocError>
     requires { (pass.queue ≡ hall.now.queue) × (pass.passes ≡ 1) × (pass.end ≡ None) }
     ensures hall { IfOk result (λ worker. worker.hall.now.queue ≡ hall.now.queue) }
     ensures bells { OnOk result (vec_len bells.new ≡ vec_len bells.old + 1) }
@@ -113,23 +114,24 @@ fn equip<'a, A: Answers + Drop>(
         hall,
         parker,
         pass,
-        answers,
+        fork,
     })
 }
 
 // Runs the workers beside the acceptor. If a thread cannot be made, the server closes at once.
-fn run<R, A, T, N>(
+fn run<R, F, T, N>(
     rt: &R,
     alloc: Global,
     serving: &Serving,
     acceptor: Acceptor<'_>,
-    workers: Vec<Worker<'_, A>>,
+    workers: Vec<Worker<'_, F>>,
     begun: &T,
     report: &mut N,
 ) -> io::Result<Ended>
 where
     R: Threads + Wait + Clock + Sync,
-    A: Answers + Send + Drop,
+    F: Fork + Send + Drop,
+    F::Session: Send,
     T: Begun + Sync,
     N: Report,
     requires none { acceptor.pass.put ≡ 0 }
