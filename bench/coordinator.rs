@@ -22,6 +22,12 @@ struct Write {
     conditions: Vec<Condition>,
 }
 
+impl Write {
+    fn named(self, id: WriteId) -> Entry {
+        Entry { id, changes: self.changes, conditions: self.conditions }
+    }
+}
+
 fn write(number: u64) -> Write {
     Write { changes: vec![Change::Touch(tuple(format!("d{number}"), "viewer", "u1".into()))], conditions: Vec::new() }
 }
@@ -66,19 +72,11 @@ impl Shard {
     fn vote(&mut self, intent: &Intent) -> Option<Vote> {
         let Intent(entry) = intent;
         let is_held = !entry.changes.iter().all(|change| self.held.insert(change.tuple().clone()));
-        if is_held || !self.journal.stage(&Record::Prepare(copied(entry))) {
+        if is_held || !self.journal.stage(&Record::Prepare(entry.clone())) {
             return None;
         }
         self.journal.flush();
         Some(Vote { id: entry.id, shard: 0 })
-    }
-}
-
-fn copied(entry: &Entry) -> Entry {
-    Entry {
-        id: entry.id,
-        changes: entry.changes.iter().map(|change| Change::Touch(change.tuple().clone())).collect(),
-        conditions: Vec::new(),
     }
 }
 
@@ -195,8 +193,7 @@ impl Coordinator {
         }
         self.given += 1;
         self.open_numbers.push(self.given);
-        let id = WriteId { epoch: self.epoch, number: self.given };
-        Some(Intent(Entry { id, changes: write.changes, conditions: write.conditions }))
+        Some(Intent(write.named(WriteId { epoch: self.epoch, number: self.given })))
     }
 
     fn decide(&mut self, Intent(entry): Intent, votes: Vec<Vote>) -> Option<Decided> {
@@ -280,10 +277,7 @@ fn log_of(decisions: u64) -> Option<Disk> {
     let mut journal = Journal::new();
     journal.stage(&Record::Epoch { epoch: 1, store: 1, shards: SHARDS, node: COORDINATOR });
     for number in 1..=decisions {
-        let Write { changes, conditions } = write(number);
-        let id = WriteId { epoch: 1, number };
-        let entry = Entry { id, changes, conditions };
-        let decision = Record::Decision { place: number, entry };
+        let decision = Record::Decision { place: number, entry: write(number).named(WriteId { epoch: 1, number }) };
         if !journal.stage(&decision) {
             journal.flush();
             journal.stage(&decision).then_some(())?;

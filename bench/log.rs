@@ -30,6 +30,7 @@ pub struct Tuple {
     pub user: User,
 }
 
+#[derive(Clone)]
 pub enum Change {
     Touch(Tuple),
     Delete(Tuple),
@@ -43,12 +44,14 @@ impl Change {
     }
 }
 
+#[derive(Clone)]
 pub enum Want {
     NotAfter(u64),
     Exists,
     Absent,
 }
 
+#[derive(Clone)]
 pub struct Condition {
     pub tuple: Tuple,
     pub want: Want,
@@ -60,6 +63,7 @@ pub struct WriteId {
     pub number: u64,
 }
 
+#[derive(Clone)]
 pub struct Entry {
     pub id: WriteId,
     pub changes: Vec<Change>,

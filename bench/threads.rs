@@ -12,11 +12,11 @@ use std::time::Instant;
 const LOADS: u64 = 100_000_000;
 const PLACES: usize = 1024;
 
-// Looks again and again whether the word fell.
-fn load_inlined(word: &AtomicU64) -> u64 {
+/// Looks again and again whether the word fell.
+fn load(look: impl Fn() -> u64) -> u64 {
     let mut last = 0u64;
     for _ in 0..LOADS {
-        let place = word.load(Ordering::SeqCst);
+        let place = look();
         if place < last {
             break;
         }
@@ -25,27 +25,15 @@ fn load_inlined(word: &AtomicU64) -> u64 {
     last
 }
 
-// The same, by a call for each look.
-fn load_called(word: &AtomicU64) -> u64 {
-    let mut last = 0u64;
-    for _ in 0..LOADS {
-        let place = look(word);
-        if place < last {
-            break;
-        }
-        last = place;
-    }
-    last
-}
-
+/// The same look, by a call.
 #[inline(never)]
-fn look(word: &AtomicU64) -> u64 {
+fn called(word: &AtomicU64) -> u64 {
     word.load(Ordering::SeqCst)
 }
 
-fn by_four(word: &AtomicU64, load: fn(&AtomicU64) -> u64) -> u64 {
+fn by_four(look: impl Fn() -> u64 + Copy + Send) -> u64 {
     thread::scope(|scope| {
-        let threads = [(); 4].map(|()| scope.spawn(|| load(word)));
+        let threads = [(); 4].map(|()| scope.spawn(move || load(look)));
         threads.into_iter().map(|thread| thread.join().unwrap()).sum()
     })
 }
@@ -120,14 +108,15 @@ fn hand_over(queue: &Queue, count: u64) -> u64 {
 }
 
 fn measure(measure: &str, count: u64) -> Option<()> {
-    let word = black_box(AtomicU64::new(0));
+    let word = &black_box(AtomicU64::new(0));
+    let (inlined, called) = (|| word.load(Ordering::SeqCst), || called(word));
     let queue = Queue::new();
     let start = Instant::now();
     let (name, amount, answer) = match measure {
-        "latest-by-one" => ("latest", LOADS, load_inlined(&word)),
-        "latest-by-four" => ("latest", 4 * LOADS, by_four(&word, load_inlined)),
-        "called-by-one" => ("latest", LOADS, load_called(&word)),
-        "called-by-four" => ("latest", 4 * LOADS, by_four(&word, load_called)),
+        "latest-by-one" => ("latest", LOADS, load(inlined)),
+        "latest-by-four" => ("latest", 4 * LOADS, by_four(inlined)),
+        "called-by-one" => ("latest", LOADS, load(called)),
+        "called-by-four" => ("latest", 4 * LOADS, by_four(called)),
         "pairs-by-one" => ("pairs", count, put_and_take(&queue, count)),
         "pairs-by-two" => ("pairs", count, hand_over(&queue, count)),
         _ => return None,

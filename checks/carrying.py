@@ -7,7 +7,7 @@ import time
 from collections import Counter
 
 from folders import DONE, at, contents, dumped, empty, fault, resharded, resharding, script
-from programs import LIMIT, without_progress
+from programs import LIMIT, Talking, without_progress
 
 FEW, MANY = 2, 5
 # How many tuples a write touches, and how many of before each but the first deletes.
@@ -49,30 +49,19 @@ def emptied(folder):
     os.mkdir(folder)
 
 
-def killed(call, moment):
-    """Runs the command, and kills it at the moment, if it did not end before."""
-    with subprocess.Popen(call, stdin=subprocess.DEVNULL, stdout=subprocess.PIPE, stderr=subprocess.PIPE, text=True) as child:
-        try:
-            out, err = child.communicate(timeout=moment)
-            assert (child.returncode, out, without_progress(err)) == DONE, "a resharding that was not killed"
-        except subprocess.TimeoutExpired:
-            child.kill()
-            child.communicate(timeout=LIMIT)
-
-
 def begun(folder):
     """How many files in the folder have anything."""
     return sum(entry.stat().st_size > 0 for entry in os.scandir(folder))
 
 
-def killed_writing(call, folder, nodes):
-    """Runs the command, and kills it as soon as each of so many nodes has begun."""
-    with subprocess.Popen(call, stdin=subprocess.DEVNULL, stdout=subprocess.DEVNULL, stderr=subprocess.DEVNULL) as child:
-        end = time.monotonic() + LIMIT
-        while child.poll() is None and begun(folder) < nodes and time.monotonic() < end:
+def killed(call, is_due):
+    """Runs the command, and kills it as soon as this is so, if it did not end before."""
+    with Talking(call, stderr=subprocess.PIPE) as ran:
+        while ran.child.poll() is None and not is_due():
             time.sleep(0.0002)
-        child.kill()
-        child.wait(timeout=LIMIT)
+        ran.child.kill()
+        out, err = ran.child.communicate(timeout=LIMIT)
+        assert ran.child.returncode == -9 or (ran.child.returncode, out, without_progress(err)) == DONE, "a resharding that was not killed"
 
 
 class Carrying:
@@ -118,11 +107,9 @@ class Carrying:
     def kill(self, folder, shards, new, new_shards, moment=None):
         """At a moment of the run, or once each new node has begun."""
         emptied(new)
-        call = resharding(folder, shards, new, new_shards)
-        if moment is None:
-            killed_writing(call, new, new_shards + 1)
-        else:
-            killed(call, moment)
+        begin = time.monotonic()
+        is_due = lambda: begun(new) > new_shards if moment is None else time.monotonic() - begin > moment
+        killed(resharding(folder, shards, new, new_shards), is_due)
         self.spoil("old", folder)
         self.store.is_in(folder, shards)
         self.refuses(folder, shards, new, new_shards)

@@ -60,8 +60,7 @@ static int sync_by(const char *name, int file) {
   int shard = shard_of(file);
   const char *only = getenv("HOLD_ONLY");
   if (shard >= 0 && (!only || !strcmp(only, name))) hold(shard);
-  int (*call)(int) = (int (*)(int))dlsym(RTLD_NEXT, name);
-  return call(file);
+  return passed_on(name, file);
 }
 
 int fdatasync(int file) { return sync_by("fdatasync", file); }

@@ -5,8 +5,7 @@ static int late_sync(const char *name, int file) {
   const char *told = getenv("LATE_SYNCS");
   long microseconds = told ? atol(told) : 0;
   struct timespec late = {microseconds / 1000000, microseconds % 1000000 * 1000};
-  int (*call)(int) = (int (*)(int))dlsym(RTLD_NEXT, name);
-  int status = call(file);
+  int status = passed_on(name, file);
   nanosleep(&late, NULL);
   return status;
 }

@@ -1,18 +1,17 @@
-"""Lives of a store: the program over a folder, killed at a moment. Each is asked first what there is, and then for
-writes of tuples of its own. The judge of the lives of a folder, one after the other: what stands is what was told, with
-the one write whose answer did not come or without it."""
-import re
-import subprocess
+"""Lives of a store: the program over a folder, killed at a moment. Each is asked first what there is, and then for writes of tuples of its own. The judge of
+the lives of a folder, one after the other: what stands is what was told, with the one write whose answer did not come or without it."""
+import contextlib
+import copy
 import tempfile
-import threading
 import time
 from collections import Counter, namedtuple
 from random import Random
 
-from judge.definitions import changed
-from judge.lines import token
-from judge.worlds import Wrong, must
-from programs import harness, lines_of
+from judge.definitions import change_text, changed
+from judge.lines import Reader, token
+from judge.reading import Failed, Judge as Scripts, Reading, behind
+from judge.worlds import World, Wrong, must
+from programs import Talking, harness
 
 STORE = 7
 SHARDS = 3
@@ -48,101 +47,92 @@ def one_write(random, number, there):
     return ("-" + there.pop(random.randrange(len(there))), made)
 
 
-EVENT = re.compile(r"(\d+) ([+-].*)")
-RESOLVED = re.compile(r"commit \d+\.\d+ (\d+)|abort \d+\.\d+")
-
-
-def rows_of(log):
-    """What the read prints: a tuple of `doc` under the number 1, and one of `pad` under 2."""
-    return sorted(f"{1 if one.startswith('doc:') else 2} {one}" for one in changed(log))
-
-
 def end_of_look(told):
     """Where the last line of a look stands; none where it was not told whole."""
     return next((at for at, line in enumerate(told) if line.startswith("heartbeat ")), None)
 
 
-class Judge:
+class Judge(Scripts):
+    """As the judge of scripts: an opening restarts each node, and a write whose answer did not come was kept, or not decided."""
+
     def __init__(self):
-        # The writes that stand, by their places.
-        self.log = []
-        # The one behind them that may stand too, and one that can't, since it was not begun.
-        self.open = None
-        self.unbegun = None
+        super().__init__(STORE, SHARDS)
+        self.worlds = [World(SHARDS)]
+        # The first opening has yet to come.
+        self.worlds[0].epoch = 0
+        # The write behind those that were told that may stand too, and one that can't, since it was not begun.
+        self.open = self.unbegun = None
         # What was seen: when lives were killed, how many writes were told, and what became of the open ones.
         self.seen = Counter()
 
+    def twin(self):
+        other = copy.copy(self)
+        other.worlds, other.seen = [world.twin() for world in self.worlds], Counter()
+        return other
+
+    def log(self):
+        """The changes of each write that stands, but for the open one."""
+        return [tuple(map(change_text, write.changes)) for write in min((world.log for world in self.worlds), key=len)]
+
     def life(self, life):
-        """Takes the next life, or raises `Wrong`."""
+        """Takes the next life, or raises `Wrong`, or `Failed` at a line."""
         refused = [line for line in life.told if line.startswith("refused")]
         must(not refused, f"prints {refused[:1]}")
         must(life.status in (None, 0), f"ends with status {life.status}")
-        end = end_of_look(life.told)
-        answers = None
-        if end is not None:
-            self.look(life.told[: end + 1])
-            answers = self.resolved(life.told[end + 1 :])
-        must(life.status is None or answers is not None, "ends, and has not told all that it was asked for")
-        if answers is not None:
-            self.answers(life, answers)
+        for node in ("c", *range(SHARDS)):
+            self.worlds = behind(self, self.worlds, ["restart", node], ["up"], 0, f"the opening of {node}")
+        answered = self.answered(life) if end_of_look(life.told) is not None else 0
+        must(life.status is None or answered == len(script(life.writes)), "ends, and has not told all that it was asked for")
+        self.seen["told"] += max(0, answered - len(looks()))
         if life.status is None:
-            self.seen["opening" if not life.told else "looking" if answers is None else "writing" if self.open else "behind the last write"] += 1
+            self.seen[self.killed(life, answered)] += 1
 
-    def look(self, lines):
-        """What was found is what was told, with the open write or without it, and what is read is what its writes leave."""
-        shapes = [EVENT.fullmatch(line) for line in lines[:-1]]
-        first = next((at for at, shape in enumerate(shapes) if shape), len(shapes))
-        must(all(shapes[first:]), f"prints {lines[first:]} as events")
-        events = [(int(shape[1]), shape[2]) for shape in shapes[first:]]
-        places = [place for place, _ in events]
-        must(places == sorted(places), f"prints events in the order of {places}")
-        self.log = self.standing([[change for place, change in events if place == each] for each in sorted({*places})])
-        must({*places} == {*range(1, len(self.log) + 1)}, f"prints events of {places}")
-        at = token(STORE, len(self.log))
-        must(lines[-1] == f"heartbeat {at}", f"prints {lines[-1]}, and not the token of place {len(self.log)}")
-        must(lines[0] == f"at {at}", f"prints {lines[0]}, and not the token of place {len(self.log)}")
-        must(sorted(lines[1:first]) == rows_of(self.log), f"reads {sorted(lines[1:first])}, and not {rows_of(self.log)}")
+    def answered(self, life):
+        """How many lines were answered. A resolution that a kill has cut off is judged by what was told of it."""
+        is_cut = life.status is None and life.told.count("done") < SHARDS
+        reading, before, at = Reading(STORE, SHARDS, life.told + ["done"] * is_cut), len(self.log()), 0
+        for at, line in enumerate(script(life.writes), 1):
+            try:
+                command, answer = reading.line(line)
+            except Wrong:
+                at -= 1
+                break
+            self.worlds = behind(self, self.worlds, command, answer, at, line)
+            if command[0] == "resolve" and self.open:
+                stood = len(self.log()) - before
+                self.seen.update(stood=stood, gone=1 - stood)
+                self.open = self.unbegun = None
+        must(reading.printed.at == len(life.told) + is_cut, "answers to nothing")
+        return at
 
-    def standing(self, found):
-        """The writes that were found, if they may be."""
-        made, self.open, self.unbegun = self.open, None, None
-        for log in [self.log, [*self.log, made]] if made else [self.log]:
-            if [sorted(changes) for changes in found] == [sorted(changes) for changes in log]:
-                self.seen["stood"] += len(log) - len(self.log)
-                self.seen["gone"] += len(self.log) + bool(made) - len(log)
-                return log
-        for place, changes in enumerate(self.log, 1):
-            must(place <= len(found), f"the write {changes} of place {place} is lost")
-            must(sorted(found[place - 1]) == sorted(changes), f"place {place} has {found[place - 1]}, and not {changes}")
-        raise Wrong(f"behind place {len(self.log)} there is {found[len(self.log) :]}, and what may be there is {made}")
-
-    def resolved(self, lines):
-        """The lines behind those of the resolutions; none where these are not all there."""
-        done = 0
-        for at, line in enumerate(lines):
-            found = RESOLVED.fullmatch(line)
-            must(line == "done" or found, f"prints {line} of a write in doubt")
-            must(line == "done" or not found[1] or 1 <= int(found[1]) <= len(self.log), f"prints {line}, and there is no such place")
-            done += line == "done"
-            if done == SHARDS:
-                return lines[at + 1 :]
-        return None
-
-    def answers(self, life, answers):
-        must(len(answers) <= len(life.writes), f"answers {answers[len(life.writes) :]} to nothing")
-        for changes, answer in zip(life.writes, answers):
-            self.log = [*self.log, changes]
-            wanted = f"ok {token(STORE, len(self.log))}"
-            must(answer == wanted, f"answers {answer} to {changes}, and not {wanted}")
-        self.seen["told"] += len(answers)
+    def killed(self, life, answered):
+        """When it was."""
+        if not life.told:
+            for world in [world.twin() for world in self.worlds]:
+                # The opening of the coordinator was not counted.
+                world.epoch -= 1
+                self.worlds.append(world)
+            return "opening"
+        if life.told.count("done") < SHARDS:
+            return "looking"
         # A line is read once the one before it is answered.
-        unanswered = life.writes[len(answers) :]
-        self.open, self.unbegun = [*unanswered, None, None][:2]
-        must(life.status is None or not unanswered, f"ends, and has not answered {unanswered}")
+        self.open, self.unbegun = [*life.writes[answered - len(looks()) :], None, None][:2]
+        if not self.open:
+            return "behind the last write"
+        self.worlds = [each for world in self.worlds for each in self.with_open(world)]
+        return "writing"
 
+    def with_open(self, world):
+        """The worlds in which the open write was not decided, and in which it was kept."""
+        self.begin(world, "", Reader(STORE, SHARDS).request(["write", *self.open]))
+        kept = world.twin()
+        self.is_begun(world, world.flows[""])
+        self.is_decided(kept, kept.flows[""])
+        kept.keep()
+        for each in (world, kept):
+            self.end(each, "")
+        return [world, kept]
 
-# Far more seconds than a life takes where much else runs.
-LIMIT = 240
 
 # The moment of a kill: so many seconds behind so many answers to writes, none of them where a life is to end in its opening.
 Moment = namedtuple("Moment", "answers seconds")
@@ -150,65 +140,37 @@ Moment = namedtuple("Moment", "answers seconds")
 Pace = namedtuple("Pace", "opening write")
 
 
-class Running:
-    """The program over the script, and the whole lines that it printed so far."""
-
-    def __init__(self, folder, lines):
-        with tempfile.TemporaryFile() as given:
-            given.write(lines_of(lines).encode())
-            given.seek(0)
-            words = harness("files", folder, STORE, SHARDS)
-            self.child = subprocess.Popen(words, stdin=given, stdout=subprocess.PIPE, stderr=subprocess.DEVNULL)
-        self.told = []
-        self.is_late = False
-        self.guard = threading.Timer(LIMIT, self.give_up)
-        self.guard.start()
-
-    def give_up(self):
-        self.is_late = True
-        self.child.kill()
-
-    def read_line(self):
-        """Whether there was one."""
-        line = self.child.stdout.readline()
-        if line.endswith(b"\n"):
-            self.told.append(line[:-1].decode())
-        return line.endswith(b"\n")
-
-    def end(self):
-        """Its status, none where it was killed. What it printed is read to the last byte."""
-        while self.read_line():
-            pass
-        self.child.stdout.close()
-        status = self.child.wait()
-        self.guard.cancel()
-        if self.is_late:
-            raise Wrong(f"no end in {LIMIT} seconds")
-        return None if status == -9 else status
+def running(folder, writes):
+    """The program over a script, which ends behind it."""
+    store = Talking(harness("files", folder, STORE, SHARDS))
+    with contextlib.suppress(BrokenPipeError):
+        store.give(*script(writes))
+        store.child.stdin.close()
+    return store
 
 
 def live(folder, writes, moment=None):
-    running = Running(folder, script(writes))
-    if moment:
-        while sum(line.startswith("ok ") for line in running.told) < moment.answers and running.read_line():
-            pass
-        time.sleep(moment.seconds)
-        running.child.kill()
-    status = running.end()
-    return Life(writes, running.told, status)
+    told = []
+    with running(folder, writes) as store:
+        if moment:
+            while sum(line.startswith("ok ") for line in told) < moment.answers and (line := store.line()):
+                told.append(line)
+            time.sleep(moment.seconds)
+            store.child.kill()
+        status, rest = store.end()
+        must(not store.is_late, "it does not end")
+    # What a kill has cut off is no line.
+    return Life(writes, told + rest[: rest.rfind("\n") + 1].splitlines(), None if status == -9 else status)
 
 
 def one_pace(seed):
-    with tempfile.TemporaryDirectory(prefix="killed-") as folder:
-        writes = some_writes(Random(seed), 1, MOST_WRITES, ())
-        begin = time.monotonic()
-        running = Running(folder, script(writes))
-        running.read_line()
+    writes, begin = some_writes(Random(seed), 1, MOST_WRITES, ()), time.monotonic()
+    with tempfile.TemporaryDirectory(prefix="killed-") as folder, running(folder, writes) as store:
+        store.line()
         opened = time.monotonic()
-        status = running.end()
+        status, rest = store.end()
         end = time.monotonic()
-    if status != 0:
-        raise Wrong(f"the program ended with status {status}, and printed {running.told[-1:]}")
+    must(status == 0, f"the program ended with status {status}, and printed {rest[-100:]}")
     return Pace(opened - begin, (end - opened) / MOST_WRITES)
 
 
@@ -236,7 +198,7 @@ class Folder:
         return sum(life.status is None for life in self.lives)
 
     def live(self, path, moment):
-        writes = some_writes(self.random, self.asked, MOST_WRITES, changed(self.judge.log)) if moment else []
+        writes = some_writes(self.random, self.asked, MOST_WRITES, changed(self.judge.log())) if moment else []
         self.asked += len(writes)
         self.lives.append(live(path, writes, moment))
         self.judge.life(self.lives[-1])
@@ -257,6 +219,6 @@ def lives(seed, number, kills, pace):
             for _ in range(2):
                 moment = None
                 folder.live(path, moment)
-        except Wrong as wrong:
+        except (Wrong, Failed) as wrong:
             return folder.lives, folder.judge.seen, [f"seed {seed}, folder {number}, life {len(folder.lives)}, {moment}: {wrong}"]
     return folder.lives, folder.judge.seen, []

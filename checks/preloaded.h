@@ -29,3 +29,6 @@ static inline const char *name_in(const char *folder, int file, char path[PATH_M
   path[length] = 0;
   return strncmp(path, folder, start) || (path[start] && path[start] != '/') ? NULL : path + start;
 }
+
+// The same call of the C library, on a file.
+static inline int passed_on(const char *name, int file) { return ((int (*)(int))dlsym(RTLD_NEXT, name))(file); }

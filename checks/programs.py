@@ -7,6 +7,7 @@ import os
 import re
 import subprocess
 import sys
+import threading
 import time
 from importlib.machinery import SourceFileLoader
 from importlib.util import module_from_spec, spec_from_loader
@@ -61,21 +62,29 @@ def example(name):
 
 
 class Talking:
-    """A program that runs, which is given lines and prints lines."""
+    """A program that runs, which is given lines and prints lines. It is killed where it has not ended within its limit."""
 
-    def __init__(self, words, **more):
+    def __init__(self, words, limit=LIMIT, **more):
         pipes = {"stdin": subprocess.PIPE, "stdout": subprocess.PIPE, "stderr": subprocess.DEVNULL}
         self.child = subprocess.Popen([*map(str, words)], **{**pipes, "text": True, "bufsize": 1, **more})
+        self.is_late, self.guard = False, threading.Timer(limit, self.give_up)
+        self.guard.daemon = True
+        self.guard.start()
+
+    def give_up(self):
+        self.is_late = True
+        self.child.kill()
 
     def __enter__(self):
         return self
 
     def __exit__(self, *_):
+        self.guard.cancel()
         self.child.kill()
         self.child.wait()
-        self.child.stdout.close()
-        with contextlib.suppress(BrokenPipeError):
-            self.child.stdin.close()
+        for pipe in filter(None, (self.child.stdin, self.child.stdout, self.child.stderr)):
+            with contextlib.suppress(BrokenPipeError):
+                pipe.close()
 
     def give(self, *lines):
         self.child.stdin.write(lines_of(lines))
@@ -90,6 +99,7 @@ class Talking:
         with contextlib.suppress(BrokenPipeError):
             self.child.stdin.close()
         rest = self.child.stdout.read()
+        self.guard.cancel()
         return self.child.wait(), rest
 
 

@@ -6,18 +6,7 @@
 struct shared { atomic_long wanted, asked, refused; };
 static struct shared *shared = NULL;
 
-static void *(*real_malloc)(size_t);
-static void *(*real_calloc)(size_t, size_t);
-static void *(*real_realloc)(void *, size_t);
-static int (*real_posix_memalign)(void **, size_t, size_t);
-static void *(*real_aligned_alloc)(size_t, size_t);
-
 __attribute__((constructor)) static void find(void) {
-  real_malloc = dlsym(RTLD_NEXT, "malloc");
-  real_calloc = dlsym(RTLD_NEXT, "calloc");
-  real_realloc = dlsym(RTLD_NEXT, "realloc");
-  real_posix_memalign = dlsym(RTLD_NEXT, "posix_memalign");
-  real_aligned_alloc = dlsym(RTLD_NEXT, "aligned_alloc");
   const char *name = getenv("REFUSE_SHARED");
   int file = name ? open(name, O_RDWR | O_CLOEXEC) : -1;
   void *found = file < 0 ? MAP_FAILED : mmap(NULL, sizeof *shared, PROT_READ | PROT_WRITE, MAP_SHARED, file, 0);
@@ -30,30 +19,24 @@ static int is_refused(void) {
   return 1;
 }
 
+// What the C library itself calls them.
 extern void *__libc_malloc(size_t);
 extern void *__libc_calloc(size_t, size_t);
+extern void *__libc_realloc(void *, size_t);
+extern void *__libc_memalign(size_t, size_t);
 
-void *malloc(size_t size) {
-  if (is_refused()) { errno = ENOMEM; return NULL; }
-  return real_malloc ? real_malloc(size) : __libc_malloc(size);
-}
+#define REFUSED_OR(made) \
+  if (!is_refused()) return made; \
+  errno = ENOMEM; \
+  return NULL
 
-void *calloc(size_t count, size_t size) {
-  if (is_refused()) { errno = ENOMEM; return NULL; }
-  return real_calloc ? real_calloc(count, size) : __libc_calloc(count, size);
-}
-
-void *realloc(void *block, size_t size) {
-  if (is_refused()) { errno = ENOMEM; return NULL; }
-  return real_realloc(block, size);
-}
+void *malloc(size_t size) { REFUSED_OR(__libc_malloc(size)); }
+void *calloc(size_t count, size_t size) { REFUSED_OR(__libc_calloc(count, size)); }
+void *realloc(void *block, size_t size) { REFUSED_OR(__libc_realloc(block, size)); }
+void *aligned_alloc(size_t alignment, size_t size) { REFUSED_OR(__libc_memalign(alignment, size)); }
 
 int posix_memalign(void **block, size_t alignment, size_t size) {
-  if (is_refused()) return ENOMEM;
-  return real_posix_memalign(block, alignment, size);
-}
-
-void *aligned_alloc(size_t alignment, size_t size) {
-  if (is_refused()) { errno = ENOMEM; return NULL; }
-  return real_aligned_alloc(alignment, size);
+  void *made = is_refused() ? NULL : __libc_memalign(alignment, size);
+  if (made) *block = made;
+  return made ? 0 : ENOMEM;
 }

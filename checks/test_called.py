@@ -10,7 +10,7 @@ from pathlib import Path
 
 import programs
 from judge.worlds import must
-from serving.server import HOST, LIMIT, Server, free_port, program
+from serving.server import HOST, Server, free_port, program
 from serving.wire import Session, check, delete, read, refusal, token, touch, watch, write
 from serving.wire import told as told_of
 
@@ -215,24 +215,21 @@ def test_follows(folder):
         words = [program(), "call", f"{HOST}:{server.port}", "--follow", "watch", token(0), "1", "doc"]
         session.ask(write(f"+{ANN}"))
         session.ask(write(f"-{ANN}"))
-        with subprocess.Popen(words, stdout=subprocess.PIPE, stderr=subprocess.PIPE, text=True) as child:
-            guard = threading.Timer(LIMIT, child.kill)
-            guard.start()
+        with programs.Talking(words, stderr=subprocess.PIPE) as call:
             for place, change in ((1, touch(ANN)), (2, delete(ANN))):
-                is_line(child, {"events": [told(place, change)], "heartbeat": token(place)})
+                is_line(call, {"events": [told(place, change)], "heartbeat": token(place)})
             session.ask(write(f"+{LOCK}"))
-            is_line(child, {"events": [told(3, touch(LOCK))], "heartbeat": token(3)})
+            is_line(call, {"events": [told(3, touch(LOCK))], "heartbeat": token(3)})
             session.ask(write(f"+{BOB}"))
-            is_line(child, {"events": [], "heartbeat": token(4)})
+            is_line(call, {"events": [], "heartbeat": token(4)})
             server.kill()
-            out, err = child.communicate(timeout=LIMIT)
-            guard.cancel()
-            assert child.returncode == 1 and out == ""
+            assert call.end() == (1, "")
+            err = call.child.stderr.read()
             assert err.startswith("zanstore: call: the connection ended before an answer: ") and "write" not in err
 
 
-def is_line(child, wanted):
-    assert child.stdout.readline() == text_of(wanted)
+def is_line(call, wanted):
+    assert call.line() + "\n" == text_of(wanted)
 
 
 def test_no_server(folder):

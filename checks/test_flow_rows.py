@@ -1,5 +1,4 @@
 """Runs the rows of flow_rows.rows, and compares what their flows do."""
-import itertools
 import re
 from pathlib import Path
 
@@ -8,7 +7,8 @@ from programs import harness, lines_of, run
 from verdicts import none
 
 ROWS = Path(__file__).with_name("flow_rows.rows")
-CHOICE = re.compile(r"<([^<>|]*)\|([^<>|]*)>")
+# What stands for several rows, and for several lines of one.
+CHOICE, EACH = re.compile(r"<([^<>]*\|[^<>]*)>"), re.compile(r"\{([^{}]*)\}")
 NAME = re.compile(r"^([A-Z]+)(?:_N)? is (.+)\n", re.MULTILINE)
 
 
@@ -74,16 +74,17 @@ def in_full(text):
     return text
 
 
-def each_of(row):
-    """A row, or those two for which it stands."""
-    return [CHOICE.sub(rf"\{at}", row) for at in (1, 2)] if CHOICE.search(row) else [row]
+def each_of(text, choice):
+    """The text, or those for which it stands."""
+    count = len(choice.search(text)[1].split("|")) if choice.search(text) else 1
+    return [choice.sub(lambda it: it[1].split("|")[at], text) for at in range(count)]
 
 
 def rows(text):
     """Of each row its steps, and what its flows do."""
-    for row in itertools.chain(*map(each_of, re.split(r"\n(?! )", in_full(text)))):
+    for row in (it for rows in re.split(r"\n(?! )", in_full(text)) for it in each_of(rows, CHOICE)):
         steps, ends = [], []
-        for line in row.split("\n") if row and not row.startswith("#") else ():
+        for line in (it for line in row.split("\n") for it in each_of(line, EACH)) if row and not row.startswith("#") else ():
             given, _, end = f" {line.strip()}".partition(" = ")
             ends += [end] if end else []
             for step in filter(None, given[1:].split("; ")):

@@ -1,5 +1,4 @@
-"""Images of nodes with one thing changed, opened: docs/CHECKS.md#changed-images. `--seed` and `--count` say which
-changes, and how many."""
+"""Images of nodes with one thing changed, opened: docs/CHECKS.md#changed-images. `--seed` and `--count` say which changes, and how many."""
 import os
 import re
 import tempfile

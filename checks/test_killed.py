@@ -1,13 +1,14 @@
 """A store over files whose process is killed, again and again: docs/CHECKS.md#killed-processes."""
 from collections import Counter
 from concurrent.futures import ThreadPoolExecutor
-from copy import deepcopy
 
 import pytest
 
+from judge.definitions import changed
 from judge.lines import token
+from judge.reading import Failed
 from judge.worlds import Wrong
-from lives import STORE, Judge, end_of_look, lives, pace, rows_of
+from lives import STORE, Judge, end_of_look, lives, pace
 from programs import lines_of
 from sweeping.wrong_programs import WRONG, program_with
 from verdicts import EVENT, OTHER_KIND, ROW, SAME, all_noticed, is_refused, less, less_or_more, none, spoiled_texts
@@ -28,15 +29,15 @@ ANSWERS = [
 
 
 def spoken(log):
-    """How a look at these writes is printed."""
-    at = token(STORE, len(log))
+    """How a look at these writes is printed: a tuple of `doc` stands under the number 1, and one of `pad` under 2."""
+    at, rows = token(STORE, len(log)), sorted(f"{1 if one.startswith('doc:') else 2} {one}" for one in changed(log))
     events = [f"{place} {change}" for place, changes in enumerate(log, 1) for change in changes]
-    return lines_of([f"at {at}", *rows_of(log), *events, f"heartbeat {at}"])
+    return lines_of([f"at {at}", *rows, *events, f"heartbeat {at}"])
 
 
 def other_logs(log, judge):
     """Writes that can't stand in place of those that were found, where the judge knows what was told and open before."""
-    before = judge.log
+    before = judge.log()
     if before:
         yield "the last told write is lost", before[:-1]
         yield "all writes are lost", []
@@ -63,11 +64,12 @@ def spoiled_life(life, judge):
     end = end_of_look(life.told)
     if end is None:
         return
-    look, rest, found = lines_of(life.told[: end + 1]), lines_of(life.told[end + 1 :]), deepcopy(judge)
-    found.look(life.told[: end + 1])
-    at = token(STORE, len(found.log) + 1)
+    look, rest, found = lines_of(life.told[: end + 1]), lines_of(life.told[end + 1 :]), judge.twin()
+    found.life(life._replace(told=life.told[: end + 1], status=None))
+    log = found.log()
+    at = token(STORE, len(log) + 1)
     others = [("another heartbeat", "^heartbeat .*", f"heartbeat {at}"), ("read at another place", r"\Aat .*", f"at {at}")]
-    yield from ((what, spoken(log) + rest) for what, log in other_logs(found.log, judge))
+    yield from ((what, spoken(other) + rest) for what, other in other_logs(log, judge))
     yield from ((what, other + rest) for what, other in spoiled_texts(look, [*LOOK, *others]))
     yield from ((what, look + other) for what, other in spoiled_texts(rest, ANSWERS))
     if life.status == 0:
@@ -80,8 +82,8 @@ def spoiled(lives):
     judge = Judge()
     for at, life in enumerate(lives):
         for what, text in spoiled_life(life, judge):
-            other, told = deepcopy(judge), text.splitlines()
-            yield what, is_refused(lambda: [other.life(it) for it in [life._replace(told=told), *lives[at + 1 :]]], Wrong), at + 1, told
+            other, told = judge.twin(), text.splitlines()
+            yield what, is_refused(lambda: [other.life(it) for it in [life._replace(told=told), *lives[at + 1 :]]], Wrong, Failed), at + 1, told
         judge.life(life)
 
 

@@ -1,11 +1,9 @@
 """Runs each script once for each of the program's allocations, which is refused, and judges each answer.
 
-A node whose opening was refused is opened again before a line is given again, and a flow that has ended by it gets its
-lines once more. Passed over are runs in which the disk's own growth was refused, which counts as a failure of the
-device.
+A node whose opening was refused is opened again before a line is given again, and a flow that has ended by it gets its lines once more. Passed over are runs
+in which the disk's own growth was refused, which counts as a failure of the device.
 """
 import re
-import signal
 from collections import Counter
 from pathlib import Path
 
@@ -18,8 +16,6 @@ from libraries import Refusing
 from programs import TOP, Talking, example, zanstore
 from verdicts import all_noticed
 
-# Far more seconds than a script takes where much else runs.
-LIMIT = 120
 Z = [token(1, place) for place in range(7)]
 # Two shards: doc:a is of shard 1, doc:b and group:g of shard 0. A group of lines is given again from its first one where a flow of it has ended by a refusal.
 MANY = [
@@ -135,10 +131,6 @@ NODES = {"c": re.compile("^(write|run|read|check)"), "0": re.compile(r"(doc_\w+:
 LOOKS = ("read ", "check ", "watch ", "rows ")
 
 
-def give_up(*_):
-    raise Wrong(f"no end in {LIMIT} seconds")
-
-
 class DiskRefused(Exception):
     """A device has failed, since it was refused its own growth."""
 
@@ -215,7 +207,6 @@ def run(refusing, script, number):
     refusing.put(number)
     once = Run(refusing)
     kind = "judged"
-    signal.alarm(LIMIT)
     try:
         once.judge(script)
     except DiskRefused:
@@ -224,7 +215,6 @@ def run(refusing, script, number):
         # While the command line is read, while the input and the output get their buffers, and while the disks are made.
         kind = "early"
     status, rest = once.end()
-    signal.alarm(0)
     if not refusing.found()[1] and kind == "judged":
         return "end"
     if (kind == "early") != (status in (1, 2)) or kind == "early" and once.answers or status not in (0, 1, 2) or kind == "judged" and rest:
@@ -235,7 +225,6 @@ def run(refusing, script, number):
 @pytest.mark.parametrize("name", SCRIPTS)
 def test_each_allocation(name, folder):
     """Far fewer allocations than there were, or a disk that fails for most of them, would show nothing."""
-    signal.signal(signal.SIGALRM, give_up)
     counts, refusing = Counter(), Refusing(folder)
     while not counts["end"]:
         number = sum(counts.values()) + 1

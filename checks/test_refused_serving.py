@@ -1,5 +1,4 @@
-"""A session with a server again and again, in each of which one allocation of the server is refused:
-docs/CHECKS.md#refused-memory.
+"""A session with a server again and again, in each of which one allocation of the server is refused: docs/CHECKS.md#refused-memory.
 
 `--count` and `--seed` say how many allocations are tried, and which; `--full` tries each.
 """

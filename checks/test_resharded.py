@@ -1,7 +1,6 @@
-"""What `zanstore reshard` makes of a store in files, against lines that were worked out by hand; which faults of the
-old folder it tells stands in test_dumped.py. Then a store of some thousand tuples is carried over there and back by
-processes that are killed (checks/carrying.py): `--count` and `--kills` say how many tuples and kills there are, each
-way."""
+"""What `zanstore reshard` makes of a store in files, against lines that were worked out by hand; which faults of the old folder it tells stands in
+test_dumped.py. Then a store of some thousand tuples is carried over there and back by processes that are killed (checks/carrying.py): `--count` and `--kills`
+say how many tuples and kills there are, each way."""
 import os
 from pathlib import Path
 

@@ -1,6 +1,5 @@
-"""A server over files that is killed again and again, and what all its callers were told:
-docs/CHECKS.md#a-server-that-is-killed. A seed chooses what is asked and when a kill comes, and not which caller comes
-first."""
+"""A server over files that is killed again and again, and what all its callers were told: docs/CHECKS.md#a-server-that-is-killed. A seed chooses what is
+asked and when a kill comes, and not which caller comes first."""
 import os
 from collections import Counter
 from random import Random

@@ -1,6 +1,5 @@
-"""A store in memory that threads share, each answer judged by one list of whole writes:
-docs/CHECKS.md#threads-over-one-store. What a run that failed printed is kept in a file, which `--file` judges again:
-threads don't run the same way twice."""
+"""A store in memory that threads share, each answer judged by one list of whole writes: docs/CHECKS.md#threads-over-one-store. What a run that failed printed
+is kept in a file, which `--file` judges again: threads don't run the same way twice."""
 import subprocess
 import tempfile
 from collections import Counter

@@ -1,6 +1,5 @@
-"""A stop at every device call of worked scripts: docs/CHECKS.md#the-sweep. `test_second` fails calls of two nodes in
-one script: as many pairs as `--count` says of those that `--seed` chooses, and with `--full` all pairs, with all 16
-pairs of what the stops leave."""
+"""A stop at every device call of worked scripts: docs/CHECKS.md#the-sweep. `test_second` fails calls of two nodes in one script: as many pairs as `--count`
+says of those that `--seed` chooses, and with `--full` all pairs, with all 16 pairs of what the stops leave."""
 import itertools
 import random
 from collections import Counter, namedtuple

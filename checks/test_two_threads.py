@@ -1,5 +1,4 @@
-"""Plays of two threads over one store, which `harness` plays and judges, and ends with 0 where all is so:
-docs/CHECKS.md#threads-over-one-store."""
+"""Plays of two threads over one store, which `harness` plays and judges, and ends with 0 where all is so: docs/CHECKS.md#threads-over-one-store."""
 import pytest
 
 from programs import harness, run

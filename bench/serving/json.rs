@@ -71,21 +71,16 @@ impl Reader<'_> {
     fn members<T>(&mut self, end: u8, one: impl Fn(&mut Self) -> Option<T>) -> Option<Vec<T>> {
         self.0 = &self.0[1..];
         let mut found = Vec::new();
-        if self.next()? == end {
-            self.takes(end)?;
-            return Some(found);
-        }
-        loop {
-            found.push(one(self)?);
-            if self.takes(b',').is_none() {
-                self.takes(end)?;
-                return Some(found);
+        while self.takes(end).is_none() {
+            if !found.is_empty() {
+                self.takes(b',')?;
             }
+            found.push(one(self)?);
         }
+        Some(found)
     }
 
     fn pair(&mut self) -> Option<(String, Value)> {
-        self.next()?;
         let name = self.text()?;
         self.takes(b':')?;
         Some((name, self.value()?))

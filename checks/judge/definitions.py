@@ -98,12 +98,8 @@ def is_member(there, asked):
 
 
 def events(log, after, upto, namespaces):
-    return [
-        (place, change)
-        for place in range(after + 1, upto + 1)
-        for change in log[place - 1].changes
-        if change.tuple.namespace in namespaces
-    ]
+    listed = ((place, change) for place in range(after + 1, upto + 1) for change in log[place - 1].changes)
+    return [(place, change) for place, change in listed if change.tuple.namespace in namespaces]
 
 
 def versions(log, learned, horizon, shard, shards):

@@ -15,9 +15,7 @@ NUMBER = re.compile(r"0|[1-9][0-9]*")
 CALLS = (
     "begin heads learned batch learn stage_prepare flush vote decide outcome abort drop_write inquire in_doubt read settle raise collect checkpoint"
 ).split()
-REFUSALS = (
-    "BadRequest BadTuple TooLarge Repeated BadZookie WrongStore Future Collected Precondition Busy Aborted Unsure Down NoMemory Full Damaged"
-).split()
+REFUSALS = "BadRequest BadTuple TooLarge Repeated BadZookie WrongStore Future Collected Precondition Busy Aborted Unsure Down NoMemory Full Damaged".split()
 MAX_LINE = 262144
 MAX_SHARDS = 64
 GREATEST = 2**63 - 1

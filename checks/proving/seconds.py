@@ -1,11 +1,12 @@
 """What earlier runs took, by which the tasks with the longest chain begin first and as many as memory holds, and the table of docs/GATE.md."""
 
 import collections
+import itertools
 import os
 import shutil
 
 HERE = os.path.dirname(os.path.realpath(__file__))
-# The record that is kept with the sources, and what the last run here took: a crate, a kind, its processor seconds, and the most memory of one command in MB.
+# The record that is kept with the sources, and what the last run here took: of a crate each kind, its processor seconds, and the most MB of a command.
 KEPT, LAST = f"{HERE}/seconds.tsv", "out/gate/seconds.tsv"
 KINDS = ("proof", "tests", "edits", "building")
 # What a check may take beyond the record, as a part of it.
@@ -19,11 +20,16 @@ def rows_of(file):
         return [line.rstrip("\n").split("\t") for line in it if line.strip()]
 
 
+def taken(file):
+    """Of each crate and kind in a record its seconds and its memory."""
+    return {(name, kind): (float(took), float(most)) for name, *cells in rows_of(file) for kind, took, most in zip(*[iter(cells)] * 3)}
+
+
 class Seconds:
     """Processor seconds of each crate's proof, tests and edits, by the record."""
 
     def __init__(self):
-        self.known = {(name, kind): float(took) for name, kind, took, _ in rows_of(KEPT)}
+        self.known = {it: took for it, (took, _) in taken(KEPT).items()}
 
     def of(self, name, kind, otherwise):
         return self.known.get((name, kind), otherwise)
@@ -35,8 +41,8 @@ class Seconds:
             sums[name, kind] += processors
             most[name, kind] = max(most[name, kind], memory)
         with open(LAST, "w", encoding="utf-8") as it:
-            for (name, kind), spent in sorted(sums.items()):
-                it.write(f"{name}\t{kind}\t{spent:.0f}\t{most[name, kind]:.0f}\n")
+            for crate, some in itertools.groupby(sorted(sums), key=lambda key: key[0]):
+                it.write("\t".join([crate, *(f"{key[1]}\t{sums[key]:.0f}\t{most[key]:.0f}" for key in some)]) + "\n")
         print(self.summary(sums))
 
     def summary(self, sums):
@@ -48,7 +54,7 @@ class Memory:
     """The most memory that a command of each crate's proof, tests and edits had, by the record."""
 
     def __init__(self):
-        self.known = {(name, kind): 1e6 * float(most) for name, kind, _, most in rows_of(KEPT)}
+        self.known = {it: 1e6 * most for it, (_, most) in taken(KEPT).items()}
 
     def of(self, name, kind, reckoned):
         """What a task is likely to have, in bytes: by the record, where `rt` reckons more, as it does of what has many lines below it."""
@@ -79,7 +85,7 @@ def row_of(name, sums):
 
 def table():
     """Prints what the last run here took, as a table of Markdown."""
-    sums = {(name, kind): float(took) for name, kind, took, _ in rows_of(LAST)}
+    sums = {it: took for it, (took, _) in taken(LAST).items()}
     with open("crates.txt", encoding="utf-8") as it:
         names = [line.split()[0].rstrip(":") for line in it if line.strip() and not line.startswith("#")]
     print("| Crate | Code and contracts | Definitions | Proofs | Tests | Edits | Minutes of proofs | of tests | of edits | of compilers | together |")

@@ -12,6 +12,7 @@ import pytest
 
 from judge.worlds import Wrong, must
 from libraries import holding
+from programs import Talking
 from test_crowding import ASKED, is_answered
 from test_restarting import DOWN_LINE, SHARD_LINE
 from serving.server import HOST, LIMIT, SHARDS, STORE, Server, free_port, lasting, program, untimed, words_of
@@ -90,15 +91,11 @@ def test_ready_is_not_taken(folder):
     """where `ready` can't be written, that is told, and it serves"""
     port = free_port()
     words = words_of({"dir": folder, "store": STORE, "shards": SHARDS, "listen": f"{HOST}:{port}", "workers": 1})
-    with open("/dev/full", "w") as full, subprocess.Popen([program(), "serve", *words], stdin=subprocess.DEVNULL, stdout=full, stderr=subprocess.PIPE, text=True) as child:
-        guard = threading.Timer(LIMIT, child.kill)
-        guard.start()
-        line = next((line for line in child.stderr if "ready" in line), "")
+    with open("/dev/full", "w") as full, Talking([program(), "serve", *words], stdout=full, stderr=subprocess.PIPE) as server:
+        line = next((line for line in server.child.stderr if "ready" in line), "")
         assert untimed(line) == "zanstore: ready, which can't be printed: No space left on device (os error 28)\n"
         with Session(port) as session:
             is_answered(session)
-        guard.cancel()
-        child.kill()
 
 
 class Busy(threading.Thread):

@@ -1,6 +1,5 @@
-"""Other lists than the one that was told, and writes that are told otherwise: if a list is another one, what is read
-behind it is made to fit. And lines that are none of a run, ticks that no counter gives, and a last part that is not
-whole: such a form is a run, its lines, or its bytes."""
+"""Other lists than the one that was told, and writes that are told otherwise: if a list is another one, what is read behind it is made to fit. And lines that
+are none of a run, ticks that no counter gives, and a last part that is not whole: such a form is a run, its lines, or its bytes."""
 import re
 
 from judge.definitions import Condition

@@ -4,7 +4,6 @@ from collections import namedtuple
 
 from judge.lines import token
 from programs import harness, lines_of, run as given
-from sweeping.looking import LIMIT
 from sweeping.scripts import STORE
 from verdicts import double, less
 
@@ -58,7 +57,7 @@ def lines():
 
 
 def printed_by(disk, call, byte):
-    status, out, _ = given(harness("failing", disk, call, byte), lines_of(lines()), LIMIT)
+    status, out, _ = given(harness("failing", disk, call, byte), lines_of(lines()))
     if status != 0:
         raise ValueError(f"the program ended with status {status}")
     return out.splitlines()
@@ -113,7 +112,7 @@ def is_down_at_first(disk, call, byte):
     """Whether a node of the new store was not opened: it refuses the first line that asks it."""
     node = NODES[disk // 2]
     asked = [line for line, _ in BEFORE] + [f"reshard {SHARDS}", f"flush {node}"]
-    return given(harness("failing", disk, call, byte), lines_of(asked), LIMIT)[1].splitlines()[-1:] == [DOWN]
+    return given(harness("failing", disk, call, byte), lines_of(asked))[1].splitlines()[-1:] == [DOWN]
 
 
 def sweep(job):

@@ -1,6 +1,5 @@
 """One run: a script whose devices fail, then all nodes are opened again, and what the store shows is held against what the script was told."""
 import resource
-import signal
 import sys
 from collections import namedtuple
 
@@ -14,8 +13,6 @@ from sweeping.scripts import NODES, SCRIPTS, SHARDS, STORE, halves, namespaces, 
 
 # Far more processor seconds than a script takes: a flow that goes on for ever is told.
 PROCESSOR_SECONDS = 5
-# Far more seconds than a script takes where much else runs: a program that waits for ever is told.
-LIMIT = 300
 
 # A line, the command that it was read as (none where it is refused by its shape), and what it printed.
 Told = namedtuple("Told", "line command printed")
@@ -37,26 +34,16 @@ class Live:
         while len(self.lines) <= at:
             line = self.stream.readline()
             if not line.endswith("\n"):
-                raise Wrong(f"the program has ended, or it has used up its {PROCESSOR_SECONDS} seconds, behind {self.lines[-1:]}")
+                raise Wrong(f"the program has ended, or used up its {PROCESSOR_SECONDS} seconds, or waits for ever, behind {self.lines[-1:]}")
             self.lines.append(line[:-1])
         return self.lines[at]
 
 
-def give_up(*_):
-    raise Wrong(f"no answer for {LIMIT} seconds")
-
-
 class Sim(Talking):
     def __init__(self):
-        signal.signal(signal.SIGALRM, give_up)
-        signal.alarm(LIMIT)
         super().__init__([program(), "sim", "--store", STORE, "--shards", SHARDS])
         resource.prlimit(self.child.pid, resource.RLIMIT_CPU, (PROCESSOR_SECONDS, PROCESSOR_SECONDS))
         self.reading = Reading(STORE, SHARDS, Live(self.child.stdout))
-
-    def __exit__(self, *_):
-        signal.alarm(0)
-        super().__exit__()
 
     def give(self, *lines):
         try:

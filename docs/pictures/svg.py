@@ -1,5 +1,7 @@
 """A picture as SVG, which docs/pictures/draw and bench/chart put together: texts, boxes and lines on a ground of its own, with a title and a description."""
+import sys
 from html import escape
+from pathlib import Path
 
 WIDTH = 880
 MARGIN = 20
@@ -95,3 +97,24 @@ class Picture:
             f'<g font-family="{FONT}">',
         ]
         return "\n".join([*head, *self.drawn, "</g>", "</svg>", ""])
+
+
+def drawn_or_told(path, text, source, is_check):
+    """Writes the picture, or tells where it is not what its source gives."""
+    if not is_check:
+        path.parent.mkdir(exist_ok=True)
+        path.write_text(text)
+    elif not path.exists() or path.read_text() != text:
+        yield f"{path.name} is not what {source}"
+
+
+def main(faults_of, default, unread=Misfit):
+    """Draws, or with --check looks at, what the command line names, and prints what is wrong."""
+    words = [word for word in sys.argv[1:] if word != "--check"]
+    try:
+        found = [*faults_of(Path(words[0]) if words else default, "--check" in sys.argv[1:])]
+    except unread as wrong:
+        found = [f"can't be drawn: {wrong}"]
+    for fault in found:
+        print(fault)
+    return 1 if found else 0
