@@ -1,5 +1,5 @@
-"""The clients of examples/clients over a server, by their own script."""
-import os
+"""The packages of clients/ over a server, by their own script, and by the Python of the checks."""
+import sys
 
 from programs import TOP, run
 
@@ -7,6 +7,6 @@ GROUP = "servers"
 
 
 def test_clients():
-    status, out, error = run([os.path.join(TOP, "examples", "clients", "run")], limit=600)
+    status, out, error = run([sys.executable, f"{TOP}/clients/run"], limit=600)
     print(out)
     assert status == 0, error

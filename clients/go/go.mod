@@ -1,0 +1,3 @@
+module zanstore
+
+go 1.19
