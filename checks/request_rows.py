@@ -16,7 +16,7 @@ BEFORE = b"".join(b'{"op":"write","changes":[{"op":"touch","tuple":"doc:p#v@u%d"
 
 
 # One row for each of these texts.
-CHOICE = re.compile(rb"<([^<>]*\|[^<>]*)>")
+CHOICE = re.compile(rb"<((?:[^<>]|<[A-Z]+>)*\|(?:[^<>]|<[A-Z]+>)*)>")
 
 
 def each_of(row):
