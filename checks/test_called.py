@@ -11,8 +11,7 @@ from pathlib import Path
 import programs
 from judge.worlds import must
 from serving.server import HOST, Server, free_port, program
-from serving.wire import Session, check, delete, read, refusal, token, touch, watch, write
-from serving.wire import told as told_of
+from serving.wire import Session, begun, check, delete, event, read, refusal, token, told, touch, watch, write
 
 GROUP = "servers"
 PAGE = Path(programs.TOP, "docs", "API.md")
@@ -38,7 +37,7 @@ def advised():
 
 
 def text_of(answer):
-    return told_of(answer).decode() + "\n"
+    return told(answer).decode() + "\n"
 
 
 def called(port, *words, lines=()):
@@ -88,13 +87,9 @@ def answer_to(line):
     return made.get(line.split()[0], refusal(1, "BadRequest"))
 
 
-def told(place, change):
-    return {"change": change["op"], "place": place, "tuple": change["tuple"]}
-
-
 def test_each_request(folder):
     """each short form, and JSON, on standard input, over a server"""
-    made = [told(1, touch(ANN)), told(2, touch(BOB)), told(2, delete(ANN))]
+    made = [event(1, touch(ANN)), event(2, touch(BOB)), event(2, delete(ANN))]
     rows = [
         (f"write +{ANN}", {"zookie": token(1)}),
         ("; a note, and an empty line", None),
@@ -217,9 +212,9 @@ def test_follows(folder):
         session.ask(write(f"-{ANN}"))
         with programs.Talking(words, stderr=subprocess.PIPE) as call:
             for place, change in ((1, touch(ANN)), (2, delete(ANN))):
-                is_line(call, {"events": [told(place, change)], "heartbeat": token(place)})
+                is_line(call, {"events": [event(place, change)], "heartbeat": token(place)})
             session.ask(write(f"+{LOCK}"))
-            is_line(call, {"events": [told(3, touch(LOCK))], "heartbeat": token(3)})
+            is_line(call, {"events": [event(3, touch(LOCK))], "heartbeat": token(3)})
             session.ask(write(f"+{BOB}"))
             is_line(call, {"events": [], "heartbeat": token(4)})
             server.kill()
@@ -260,8 +255,8 @@ def test_strangers(folder):
 def test_waits(folder):
     """a server that is slow to answer, or takes no connection"""
     with MadeUp([answer_to("check")], seconds=3.6) as server:
-        told = f"zanstore: call: {HOST}:{server.port}: no answer after 3 s, still waiting: all workers of the server may be taken\n"
-        is_called((0, text_of(answer_to("check")), told), called(server.port, "check", ANN), "a slow answer")
+        why = f"zanstore: call: {HOST}:{server.port}: no answer after 3 s, still waiting: all workers of the server may be taken\n"
+        is_called((0, text_of(answer_to("check")), why), called(server.port, "check", ANN), "a slow answer")
     with MadeUp([answer_to("check")] * 2, seconds=3) as server:
         late = "zanstore: call: no answer within the --timeout"
         is_called((1, "", f"{late}\n"), called(server.port, "--timeout", "1", "check", ANN), "a late answer")
@@ -269,16 +264,12 @@ def test_waits(folder):
     with socket.socket() as busy:
         busy.bind((HOST, 0))
         busy.listen(0)
-        port, waiting = busy.getsockname()[1], [socket.socket() for _ in range(4)]
-        for one in waiting:
-            one.setblocking(False)
-            one.connect_ex((HOST, port))
-        found = called(port, "--timeout", "1", "check", ANN)
-        is_called((1, "", f"zanstore: call: {HOST}:{port}: no connection within the --timeout\n"), found, "no connection in time")
-        status, _, err = called(port, "--timeout", "4", "check", ANN)
-        assert status == 1 and err.startswith(f"zanstore: call: {HOST}:{port}: no connection after 3 s, still waiting\n")
-        for one in waiting:
-            one.close()
+        port = busy.getsockname()[1]
+        with begun(port, 4):
+            found = called(port, "--timeout", "1", "check", ANN)
+            is_called((1, "", f"zanstore: call: {HOST}:{port}: no connection within the --timeout\n"), found, "no connection in time")
+            status, _, err = called(port, "--timeout", "4", "check", ANN)
+            assert status == 1 and err.startswith(f"zanstore: call: {HOST}:{port}: no connection after 3 s, still waiting\n")
 
 
 def usage(line, kind):

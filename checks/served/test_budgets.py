@@ -93,9 +93,7 @@ def test_named_again(folder):
 
 def test_checks(folder):
     """a check that meets more usersets than the share of its worker has room for is refused; one that just fits is answered"""
-    def link(group, number):
-        return f"group:{group}#member@group:g{number:05}#member"
-
+    link = lambda group, number: f"group:{group}#member@group:g{number:05}#member"
     most = fit(link("full", 0))
     links = [link(name, number) for name, count in (("full", most), ("over", most + 1)) for number in range(count)]
     with Server(folder, **{"answer-mib": MIB}) as server, Session(server.port) as session:

@@ -67,22 +67,18 @@ def ends(crowd, enough):
 
 def test_crowded(folder):
     """1,100 connections at once: 1,024 wait and are served in the end, the others are closed"""
-    with Server(folder, workers=2, idle=LIMIT) as server:
+    with Server(folder, workers=2, idle=LIMIT) as server, contextlib.ExitStack() as opened:
         holders = [Session(server.port) for _ in range(2)]
         for holder in holders:
             is_answered(holder)
-        crowd = crowd_of(server.port)
-        try:
-            answered, closed = ends(crowd, lambda _, closed: closed >= CROWD - PLACES)
-            must((answered, closed) == (0, CROWD - PLACES), f"while all workers were held {answered} were answered, and {closed} closed")
-            for holder in holders:
-                is_answered(holder)
-                holder.close()
-            answered, closed = ends(crowd, lambda answered, closed: answered + closed == PLACES)
-            must((answered, closed) == (PLACES, 0), f"of those that waited {answered} were answered, and {closed} closed")
-        finally:
-            for one in crowd:
-                one.close()
+        crowd = [*map(opened.enter_context, crowd_of(server.port))]
+        answered, closed = ends(crowd, lambda _, closed: closed >= CROWD - PLACES)
+        must((answered, closed) == (0, CROWD - PLACES), f"while all workers were held {answered} were answered, and {closed} closed")
+        for holder in holders:
+            is_answered(holder)
+            holder.close()
+        answered, closed = ends(crowd, lambda answered, closed: answered + closed == PLACES)
+        must((answered, closed) == (PLACES, 0), f"of those that waited {answered} were answered, and {closed} closed")
         with Session(server.port) as session:
             is_answered(session)
 
@@ -158,22 +154,12 @@ def test_unread_answers(folder):
             must(is_cut(unread), "the client that reads nothing has a connection still, and there is one worker")
 
 
-def sips(one, seconds, is_over, most=100):
-    """For how long bytes of answers were taken, up to so many twice a second, until it is over."""
+def sips(one, seconds, *others, goes_on=lambda: True, most=100):
+    """For how long bytes of answers were taken, up to so many twice a second, while it goes on and nothing comes to the others."""
     begin = time.monotonic()
-    while time.monotonic() < begin + seconds and not is_over():
+    while time.monotonic() < begin + seconds and not select.select(others, [], [], 0.5)[0] and goes_on():
         took(one, most)
     return time.monotonic() - begin
-
-
-def comes(session):
-    """Whether something of an answer comes within half a second."""
-    return bool(select.select([session.socket], [], [], 0.5)[0])
-
-
-def half_a_second():
-    time.sleep(0.5)
-    return False
 
 
 @pytest.mark.long
@@ -181,7 +167,7 @@ def test_sipped_answers(folder):
     """a client that takes a little of its answers now and then loses the only worker too, where another waits, behind half a minute"""
     with only_worker_taken(folder) as (server, sipping), Session(server.port, LATEST) as other:
         other.send(spelled(ASKED))
-        waited = sips(sipping, LATEST, lambda: comes(other))
+        waited = sips(sipping, LATEST, other.socket)
         # It has kept the worker since before, while it was filled.
         must(SLOWEST - 10 <= waited < SLOWEST + 15, f"a client that takes 200 bytes a second kept its worker for {waited:.1f} s")
         is_next(other, BEHIND)
@@ -191,7 +177,7 @@ def test_sipped_answers(folder):
 def test_sipped_last(folder):
     """nor does it keep a server that is about to end"""
     with only_worker_taken(folder, connections=2) as (server, sipping):
-        waited = sips(sipping, LATEST, lambda: half_a_second() or not server.goes_on())
+        waited = sips(sipping, LATEST, goes_on=server.goes_on)
         must(SLOWEST - 10 <= waited < SLOWEST + 15, f"a client that takes 200 bytes a second kept a server for {waited:.1f} s")
         server.ends()
 
@@ -201,7 +187,7 @@ def test_taken_answers(folder):
     """one that takes them at some kilobytes a second keeps the only worker, though another waits"""
     with only_worker_taken(folder) as (server, taking), Session(server.port) as other:
         other.send(spelled(ASKED))
-        waited = sips(taking, 2 * SLOWEST, lambda: comes(other), most=1 << 14)
+        waited = sips(taking, 2 * SLOWEST, other.socket, most=1 << 14)
         must(waited >= 2 * SLOWEST, f"a client that takes up to 32 KiB a second lost its worker behind {waited:.1f} s")
         taking.close()
         is_next(other, BEHIND)
@@ -211,7 +197,7 @@ def test_taken_answers(folder):
 def test_sipped_alone(folder):
     """a client that takes a little of its answers now and then has the only worker for as long as it likes while nobody waits"""
     with only_worker_taken(folder) as (_, sipping):
-        sips(sipping, SLOWEST + 15, half_a_second)
+        sips(sipping, SLOWEST + 15)
         taken, late = 0, time.monotonic() + LIMIT
         while taken < 1 << 20 and time.monotonic() < late:
             some = sipping.recv(1 << 16)

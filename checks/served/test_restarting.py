@@ -4,7 +4,7 @@ import os
 from imaging.format import STRETCH
 from judge.worlds import must
 from serving.server import SHARDS, Server, is_start, untimed, waits
-from serving.wire import Session, check, is_told, place_of, read, refusal, token, watch, write
+from serving.wire import Session, check, event, is_told, place_of, read, refusal, token, touch, watch, write
 
 GROUP = "servers"
 COUNT = 100
@@ -88,7 +88,7 @@ def goes_on_beside(session, place):
         is_told(session, write("+" + tuple), {"zookie": token(place + number)})
         is_told(session, check(tuple), {"member": True, "zookie": token(place + number)})
     is_told(session, read("doc:b"), {"sets": [told], "zookie": token(place + 10)})
-    events = [{"change": "touch", "place": place + number, "tuple": tuple} for number, tuple in enumerate(told, 1)]
+    events = [event(place + number, touch(tuple)) for number, tuple in enumerate(told, 1)]
     is_told(session, watch(token(place), "doc"), {"events": events, "heartbeat": token(place + 10)})
     return told
 

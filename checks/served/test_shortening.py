@@ -11,7 +11,7 @@ from judge.definitions import shard_of
 from judge.worlds import must
 from libraries import built_library
 from serving.server import SHARDS, Server, untimed, waits
-from serving.wire import Session, check, delete, is_told, read, refusal, token, touch, watch, write
+from serving.wire import Session, check, delete, event, is_told, read, refusal, token, touch, watch, write
 
 GROUP = "servers"
 # Each write touches, or deletes and touches, so many tuples of the greatest length, all of one object; so its shard and the coordinator have some 1.3 kB more,
@@ -75,11 +75,6 @@ def are_shortened(folder):
     waits(have, f"no checkpoints {LATE} seconds after {lengths(folder, 'a')} bytes", LATE)
 
 
-def listed(first, last, *changes):
-    """What a watch tells of places at each of which the same was changed."""
-    return [{"change": change["op"], "place": place, "tuple": change["tuple"]} for place in range(first, last + 1) for change in changes]
-
-
 def test_shortened(folder):
     """a shard and the coordinator go on in their other files, from checkpoints, past 2 MiB and not before; behind a kill what was told is there, and what was collected gone"""
     rows = sorted(tuples())
@@ -92,7 +87,7 @@ def test_shortened(folder):
             place += 1
             is_told(session, write("+" + rows[0], "-" + rows[1]), {"zookie": token(place)})
         must(max(lengths(folder, "b")) <= SHORT, f"checkpoints of {CHANGES} tuples and {WINDOW} writes, and 10 writes, have {lengths(folder, 'b')} bytes")
-        told = {"events": listed(before + 1, place, *changes), "heartbeat": token(place)}
+        told = {"events": [event(at, change) for at in range(before + 1, place + 1) for change in changes], "heartbeat": token(place)}
         is_told(session, watch(token(before), "doc"), told)
     # With a window so wide its first round lets nothing more go.
     with Server(folder, window=ROUND) as second, Session(second.port) as session:

@@ -3,9 +3,7 @@ import os
 import random
 import re
 import shutil
-import signal
 import socket
-import subprocess
 import time
 from pathlib import Path
 
@@ -13,6 +11,7 @@ from folders import apart, contents, empty
 from imaging.format import STRETCH, Rules, bodies_of
 from judge.worlds import must
 from libraries import holding
+from programs import Talking
 from serving.server import HOST, SHARDS, STORE, Server, free_port, is_start, limit, program, run, untimed, waits, without_progress, words_of
 from serving.wire import Gone, Session, check, is_told, read, refusal, token, write
 
@@ -260,8 +259,7 @@ def test_closed_streams(folder):
     """standard input, output and error closed: what is told of a shard that goes down lands in nobody's answers"""
     given = options(folder, workers=4)
     port = int(given["listen"].rsplit(":", 1)[1])
-    child = subprocess.Popen([program(), "serve", *words_of(given)], preexec_fn=lambda: without_streams(90000))
-    try:
+    with Talking([program(), "serve", *words_of(given)], preexec_fn=lambda: without_streams(90000)):
         sessions = [waits(lambda: connected(port), "nobody listens") for _ in range(3)]
         # Each is served by now, under a descriptor of its own.
         for session in sessions:
@@ -274,9 +272,6 @@ def test_closed_streams(folder):
         for session in sessions:
             is_told(session, {"op": "read", "sets": []}, refusal(1, "BadRequest"))
             is_told(session, check("doc"), refusal(2, "BadTuple"))
-    finally:
-        child.send_signal(signal.SIGKILL)
-        child.wait()
 
 
 def test_long_opening(folder):

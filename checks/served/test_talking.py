@@ -8,7 +8,7 @@ from judge.worlds import must
 from request_rows import is_refused_before, rows
 from libraries import holding
 from serving.server import LIMIT, Server, is_beginning, run, waits
-from serving.wire import Session, check, delete, is_next, is_told, place_of, read, refusal, spelled, token, touch, watch, write
+from serving.wire import Session, check, delete, event, is_next, is_told, place_of, read, refusal, spelled, token, touch, watch, write
 
 GROUP = "servers"
 MAX_LINE = 262144
@@ -75,10 +75,8 @@ def test_each_request(folder):
         is_told(session, write("+doc:readme#owner@ann", conditions=conditions), {"zookie": token(3)})
         is_told(session, check("doc:readme#viewer@ann", exact=token(4)), refusal(7, "Future"))
         is_told(session, read("doc:readme", exact=token(1, 99)), refusal(6, "WrongStore"))
-        events = [(2, touch("group:staff#member@bob")), (3, touch("doc:readme#owner@ann"))]
-        events.insert(1, (2, touch("doc:readme#viewer@group:staff#member")))
-        events.insert(2, (2, delete("doc:readme#viewer@ann")))
-        told = [{"change": change["op"], "place": place, "tuple": change["tuple"]} for place, change in events]
+        told = [event(2, touch("group:staff#member@bob")), event(2, touch("doc:readme#viewer@group:staff#member"))]
+        told += [event(2, delete("doc:readme#viewer@ann")), event(3, touch("doc:readme#owner@ann"))]
         is_told(session, watch(token(1), "doc", "group"), {"events": told, "heartbeat": token(3)})
         is_told(session, watch(token(1), "group", limit=1), {"events": told[:1], "heartbeat": token(2)})
 
@@ -231,11 +229,10 @@ def test_long_lines(folder):
     """a line of 262,144 bytes is answered, bare spaces too, one of a byte more is refused, and the session goes on"""
     line = spelled(check("doc:a#viewer@ann"))[:-1]
     whole = {"member": False, "zookie": token(0)}
+    rows = [(line, MAX_LINE, whole), (line, MAX_LINE + 1, TOO_LARGE), (line, MAX_LINE, whole), (line, 3 * MAX_LINE, TOO_LARGE)]
+    rows += [(b"", MAX_LINE, refusal(1, "BadRequest")), (b"", MAX_LINE + 1, TOO_LARGE)]
     with Server(folder) as server, Session(server.port) as session:
-        for length, wanted in ((MAX_LINE, whole), (MAX_LINE + 1, TOO_LARGE), (MAX_LINE, whole), (3 * MAX_LINE, TOO_LARGE)):
-            session.send(line.ljust(length) + b"\n")
-            is_next(session, wanted, f"a line of {length} bytes")
-        for length, wanted in ((MAX_LINE, refusal(1, "BadRequest")), (MAX_LINE + 1, TOO_LARGE)):
-            session.send(b" " * length + b"\n")
-            is_next(session, wanted, f"{length} spaces")
+        for begin, length, wanted in rows:
+            session.send(begin.ljust(length) + b"\n")
+            is_next(session, wanted, f"{begin} up to {length} bytes")
         is_told(session, check("doc:a#viewer@ann"), whole)

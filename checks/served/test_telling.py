@@ -1,6 +1,5 @@
 """What a server tells whoever keeps it running, and what ends it."""
 import ctypes
-import errno
 import os
 import re
 import socket
@@ -16,7 +15,7 @@ from programs import Talking
 from test_crowding import ASKED, is_answered
 from test_restarting import DOWN_LINE, SHARD_LINE
 from serving.server import HOST, LIMIT, SHARDS, STORE, Server, free_port, lasting, program, untimed, words_of
-from serving.wire import Gone, Session, is_next, is_told, read, spelled, token, write
+from serving.wire import Gone, Session, begun, is_next, is_told, read, spelled, token, write
 from test_talking import meets
 
 GROUP = "servers"
@@ -49,27 +48,14 @@ def test_taken_workers(folder):
         server.is_silent()
 
 
-def crowd(port, count):
-    """So many connections that are begun, whether or not they are taken."""
-    made = []
-    for _ in range(count):
-        one = socket.socket()
-        made.append(one)
-        one.setblocking(False)
-        must(one.connect_ex((HOST, port)) in (0, errno.EINPROGRESS), "a connection can't be begun")
-    return made
-
-
 def test_few_descriptors(folder):
     """500 connections to a server with 64 descriptors: it says so once, and answers as soon as they are gone"""
     with Server(folder, descriptors=64) as server:
         server.begins(folder)
-        made = crowd(server.port, 500)
-        tells(server, REFUSED)
-        # Past 1,024 tries of which none was paused for more than 10 milliseconds.
-        time.sleep(12)
-        for one in made:
-            one.close()
+        with begun(server.port, 500):
+            tells(server, REFUSED)
+            # Past 1,024 tries of which none was paused for more than 10 milliseconds.
+            time.sleep(12)
         with lasting("an answer behind the last of 500 connections", most=10), Session(server.port) as session:
             is_answered(session)
         # Nothing more is told until it is killed but that its workers are taken.

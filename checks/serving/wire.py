@@ -1,4 +1,6 @@
 """A session with a server: a line in, a line out; and requests as values."""
+import contextlib
+import errno
 import json
 import socket
 
@@ -123,6 +125,21 @@ class Session:
         except Gone:
             return True
         raise Wrong(f"there is one more answer: {line[:80]}")
+
+
+@contextlib.contextmanager
+def begun(port, count):
+    """So many connections that are begun, whether or not they are taken."""
+    with contextlib.ExitStack() as opened:
+        for one in [opened.enter_context(socket.socket()) for _ in range(count)]:
+            one.setblocking(False)
+            must(one.connect_ex((HOST, port)) in (0, errno.EINPROGRESS), "a connection can't be begun")
+        yield
+
+
+def event(place, change):
+    """A change of a write as a watch tells it."""
+    return {"change": change["op"], "place": place, "tuple": change["tuple"]}
 
 
 def refusal(number, name):
