@@ -17,16 +17,7 @@ static int notes = -1;
 static atomic_ullong numbers;
 static atomic_uint syncs[256];
 
-static ssize_t (*real_pwrite)(int, const void *, size_t, off_t);
-static int (*real_fsync)(int);
-static int (*real_fdatasync)(int);
-static int (*real_openat)(int, const char *, int, ...);
-
 __attribute__((constructor)) static void find(void) {
-  real_pwrite = dlsym(RTLD_NEXT, "pwrite");
-  real_fsync = dlsym(RTLD_NEXT, "fsync");
-  real_fdatasync = dlsym(RTLD_NEXT, "fdatasync");
-  real_openat = dlsym(RTLD_NEXT, "openat");
   const char *named = getenv("NOTES_FOLDER"), *file = getenv("NOTES_FILE");
   forget = getenv("NOTES_FORGET");
   if (!named || !file || strlen(named) >= sizeof folder) return;
@@ -65,7 +56,7 @@ static void note_unknown(int file, const char *call) {
 ssize_t pwrite(int file, const void *bytes, size_t length, off_t offset) {
   char path[PATH_MAX];
   const char *name = name_of(file, path);
-  if (!name) return real_pwrite(file, bytes, length, offset);
+  if (!name) return syscall(SYS_pwrite64, file, bytes, length, offset);
   struct stat now;
   void *old = malloc(length + 1);
   if (!old || fstat(file, &now)) abort();
@@ -76,7 +67,7 @@ ssize_t pwrite(int file, const void *bytes, size_t length, off_t offset) {
   note.old = held;
   put(&note, name, old, bytes);
   free(old);
-  ssize_t done = real_pwrite(file, bytes, length, offset);
+  ssize_t done = syscall(SYS_pwrite64, file, bytes, length, offset);
   struct note made = {.kind = 'D', .number = next(), .of = note.number, .length = 0};
   if (done == (ssize_t)length) put(&made, name, NULL, NULL);
   return done;
@@ -92,18 +83,18 @@ static int is_forgotten(const char *name) {
   return !strcmp(forget, "all") || !strcmp(forget, name);
 }
 
-static int sync_by(int (*call)(int), int file) {
+static int sync_by(const char *call, int file) {
   char path[PATH_MAX];
   const char *name = name_of(file, path);
   struct note note = {.kind = 'S', .of = atomic_load(&numbers)};
-  int result = call(file);
+  int result = passed_on(call, file);
   note.number = next();
   if (name && !result && !is_forgotten(name)) put(&note, name, NULL, NULL);
   return result;
 }
 
-int fsync(int file) { return sync_by(real_fsync, file); }
-int fdatasync(int file) { return sync_by(real_fdatasync, file); }
+int fsync(int file) { return sync_by("fsync", file); }
+int fdatasync(int file) { return sync_by("fdatasync", file); }
 
 // A file that is made is noted before and behind; whether it was there is asked before.
 static int open_by(int at, const char *path, int flags, mode_t mode) {
@@ -115,7 +106,7 @@ static int open_by(int at, const char *path, int flags, mode_t mode) {
     note.number = note.of = next();
     put(&note, name, NULL, NULL);
   }
-  int file = real_openat(at, path, flags, mode);
+  int file = syscall(SYS_openat, at, path, flags, mode);
   struct note made = {.kind = 'D', .number = next(), .of = note.number};
   if (is_new && file >= 0) put(&made, name, NULL, NULL);
   if (file >= 0 && (flags & O_TRUNC)) note_unknown(file, "truncate");
