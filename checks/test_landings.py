@@ -10,11 +10,8 @@ import pytest
 
 ANY = 2**64 - 1
 KINDS = (
-    "checkpoints tell nobody",
-    "who goes on passes nothing on",
-    "landings are told to the next flight alone",
-    "a node that is down tells nobody",
-    "who sleeps is counted out",
+    *("checkpoints tell nobody", "who goes on passes nothing on", "landings are told to the next flight alone"),
+    *("a node that is down tells nobody", "who sleeps is counted out"),
 )
 
 

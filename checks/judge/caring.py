@@ -23,9 +23,8 @@ class Cares(Told):
             world.settle(name)
         return [world]
 
-    def checkpoint(self, world, name, printed):
-        """A node has what it had, by other records: to whoever asks it is a flush."""
-        return self.flush(world, name, printed)
+    # A node has what it had, by other records: to whoever asks it is a flush.
+    checkpoint = flush
 
     def learn(self, world, name, printed):
         if not self.done(printed):

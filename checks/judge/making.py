@@ -31,12 +31,10 @@ class Maker:
         self.raised = self.names = 0
         self.tried = {self.shards}
         self.count(self.shards)
-        kinds = {"write": 8, "answer": 6, "care": 3, "nothing": 0.3, "flow": 0, "write_story": 0, "answer_story": 0, "checkpoint": 0, "restart": 0, "fail": 0}
+        self.kinds = {"write": 8, "answer": 6, "care": 3, "nothing": 0.3}
         for kind, weight in (("flow", 4), ("write_story", 3), ("answer_story", 1.5), ("checkpoint", 0.7), ("restart", 0.7), ("fail", 0.7)):
-            if self.random.random() < 0.6 and not is_plain:
-                kinds[kind] = weight
-        kinds["reshard"] = 0.5 if self.random.random() < 0.5 else 0
-        self.kinds = kinds
+            self.kinds[kind] = weight if self.random.random() < 0.6 and not is_plain else 0
+        self.kinds["reshard"] = 0.5 if self.random.random() < 0.5 else 0
         # A script in which nothing fails and nothing is opened again ends as it is.
         self.is_plain = is_plain
 

@@ -299,17 +299,10 @@ def other_token(random, line):
 
 
 CHANGES = {
-    "cut": cut,
-    "double": double,
-    "bytes": change_bytes,
+    **{"cut": cut, "double": double, "bytes": change_bytes},
     "no UTF-8": lambda random, line: put(random, line, random.choice(NO_UTF8)),
     "escape": lambda random, line: put(random, line, random.choice(ESCAPES)),
-    "nest": nest,
-    "lengthen": lengthen,
-    "splice": splice,
-    "number": renumber,
-    "repeat": repeat,
-    "token": other_token,
+    **{"nest": nest, "lengthen": lengthen, "splice": splice, "number": renumber, "repeat": repeat, "token": other_token},
 }
 
 

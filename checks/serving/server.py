@@ -99,10 +99,9 @@ def is_beginning(text, folder, shards, port):
 def limit(longest, descriptors):
     """No file gets longer, and a call that would write past that ends the process by a signal; and no more descriptors are there. As many as there are where
     none is given."""
-    if longest:
-        resource.setrlimit(resource.RLIMIT_FSIZE, (longest, longest))
-    if descriptors:
-        resource.setrlimit(resource.RLIMIT_NOFILE, (descriptors, descriptors))
+    for kind, most in ((resource.RLIMIT_FSIZE, longest), (resource.RLIMIT_NOFILE, descriptors)):
+        if most:
+            resource.setrlimit(kind, (most, most))
 
 
 class Server:
