@@ -11,7 +11,7 @@ from collections import Counter
 from judge.worlds import Wrong, must
 from libraries import Refusing
 from serving.server import Server
-from serving.wire import Gone, Session, check, place_of, read, refusal, token, watch, write
+from serving.wire import Gone, Session, check, event, place_of, read, refusal, token, touch, watch, write
 from verdicts import all_noticed, is_refused
 
 GROUP = "servers"
@@ -28,8 +28,7 @@ def session_of(number, base):
     one, two, group = f"doc:a{number:06}", f"doc:b{number:06}", f"group:g{number:06}#member"
     many = [f"{two}#editor@u{user:02}" for user in range(64)]
     places = [token(base + place) for place in range(5)]
-    listed = [(base + 1, "touch", f"{one}#viewer@{group}"), (base + 1, "touch", f"{group}@ann"), (base + 2, "touch", f"{two}#viewer@ann")]
-    events = [{"change": change, "place": place, "tuple": tuple} for place, change, tuple in listed]
+    events = [event(base + 1, touch(f"{one}#viewer@{group}")), event(base + 1, touch(f"{group}@ann")), event(base + 2, touch(f"{two}#viewer@ann"))]
     absent = [{"tuple": f"{two}#viewer@ann", "want": "absent"}]
     return [
         (write(f"+{one}#viewer@{group}", f"+{group}@ann", conditions=[{"tuple": f"{one}#viewer@{group}", "want": "absent"}]), {"zookie": places[1]}),
@@ -88,20 +87,15 @@ class Asker:
 def finds(server, told):
     """A later life has the whole list of the sessions, and no more."""
     with Session(server.port) as session:
-        at, found = token(0), []
-        while True:
-            answer = session.ask(watch(at, "doc", "group"))
+        at, last, found = None, token(0), []
+        while at != last:
+            at, answer = last, session.ask(watch(last, "doc", "group"))
             must("events" in answer, f"answers {answer} to a watch")
-            found += [(event["place"], event["change"], event["tuple"]) for event in answer["events"]]
-            if answer["heartbeat"] == at:
-                break
-            at = answer["heartbeat"]
+            found, last = found + answer["events"], answer["heartbeat"]
         must(place_of(answer) == PLACES * told, f"the list ends at {place_of(answer)}, and {PLACES * told} were told")
-    wanted = []
-    for number in range(told):
-        requests = [request for request, answer in session_of(number, PLACES * number) if "zookie" in answer and request["op"] == "write"]
-        for place, request in enumerate(requests, PLACES * number + 1):
-            wanted += [(place, change["op"], change["tuple"]) for change in request["changes"]]
+    sessions = [one for number in range(told) for one in session_of(number, PLACES * number)]
+    writes = [request for request, answer in sessions if "zookie" in answer and request["op"] == "write"]
+    wanted = [event(place, change) for place, request in enumerate(writes, 1) for change in request["changes"]]
     must(found == wanted, "the list has other changes than were told")
 
 

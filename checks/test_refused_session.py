@@ -7,7 +7,7 @@ from judge.lines import token
 from judge.worlds import must
 from libraries import Refusing
 from programs import harness, run
-from serving.wire import check, read, refusal, spelled, touch, watch, write
+from serving.wire import check, event, read, refusal, spelled, touch, watch, write
 
 LONG, NEAR = "x" * 128, "doc:a#viewer@u1"
 FAR = [f"doc:{LONG}#viewer@{LONG[:-1]}{user}" for user in range(1, 5)]
@@ -27,7 +27,7 @@ REFUSED = spelled(refusal(14, "NoMemory"))
 
 def answer(name, near, far):
     """After so many writes of each kind, of a plain list of touches."""
-    zookie, events = token(1, near + far), [{"change": "touch", "place": place, "tuple": NEAR} for place in range(1, near + 1)]
+    zookie, events = token(1, near + far), [event(place, touch(NEAR)) for place in range(1, near + 1)]
     others = {
         "near_read": {"sets": [[NEAR] * near], "zookie": zookie},
         "check": {"member": True, "zookie": zookie},

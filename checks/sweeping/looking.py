@@ -1,4 +1,5 @@
 """One run: a script whose devices fail, then all nodes are opened again, and what the store shows is held against what the script was told."""
+import copy
 import resource
 import sys
 from collections import namedtuple
@@ -83,10 +84,8 @@ class Look:
 
     def with_other(self, index, printed):
         """The same, where this line printed something else."""
-        other = Look(self.name, self.fails)
-        other.given = self.given
+        other = copy.copy(self)
         other.told = self.told[:index] + [self.told[index]._replace(printed=printed)] + self.told[index + 1 :]
-        other.parts, other.horizon = self.parts, self.horizon
         return other
 
     def waiting(self):
@@ -223,10 +222,7 @@ def acknowledged_stay(look):
 
 
 def is_judged(look):
-    try:
-        judged(look.script(), look.printed(), STORE, SHARDS)
-    except Failed as failed:
-        raise Wrong(str(failed)) from failed
+    judged(look.script(), look.printed(), STORE, SHARDS)
 
 
 OWN = (nothing_is_damaged, all_are_open, snapshots_meet, writes_are_whole, acknowledged_stay)
@@ -237,7 +233,7 @@ def faults(look, asserts=(*OWN, is_judged)):
     for each in asserts:
         try:
             each(look)
-        except (Wrong, ValueError, IndexError) as wrong:
+        except (Failed, Wrong, ValueError, IndexError) as wrong:
             found.append(f"{each.__name__}: {wrong}")
     return found
 
