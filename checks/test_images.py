@@ -17,6 +17,7 @@ from imaging.replaying import answer, found, is_found_without, named_of
 from imaging.rows import ROWS, given_and_told, text_of
 from judge.definitions import home, tuple_text
 from judge.lines import token
+from judge.worlds import Wrong, must
 from programs import TOP, harness, lines_of, run
 from sweeping.wrong_programs import program_with
 from verdicts import none
@@ -24,21 +25,9 @@ from verdicts import none
 DAMAGED, FULL = "16 Damaged", "15 Full"
 
 
-class Refused(Exception):
-    """A dump that prints nothing."""
-
-
-def must(is_so, refusal=DAMAGED):
-    if not is_so:
-        raise Refused(refusal)
-
-
 def opened(image):
     """What the node has, where its opening is not refused."""
-    try:
-        node, _ = found(Rules(), image)
-    except Damaged:
-        raise Refused(DAMAGED) from None
+    node, _ = found(Rules(), image)
     must(node.epoch < GREATEST, FULL)
     return node
 
@@ -55,7 +44,7 @@ def learned(coordinator, shard):
     for made in coordinator.log:
         if made.place > shard.learned and any(home(named, shard.shards) == shard.node for named in named_of(made)):
             prepared = doubt.pop(made.id, None)
-            must(prepared and part_of(shard, prepared) == part_of(shard, made))
+            must(prepared and part_of(shard, prepared) == part_of(shard, made), DAMAGED)
             rows += [(named, made.place, is_touch) for is_touch, named in prepared.changes]
     return rows
 
@@ -65,9 +54,11 @@ def right_dump(images):
     try:
         coordinator, *shards = [opened(image) for image in images]
         for shard in shards:
-            must(coordinator.horizon <= shard.learned <= coordinator.end())
+            must(coordinator.horizon <= shard.learned <= coordinator.end(), DAMAGED)
         rows = [row for shard in shards for row in learned(coordinator, shard)]
-    except Refused as refused:
+    except Damaged:
+        return 1, "", f"zanstore: {DAMAGED}\n"
+    except Wrong as refused:
         return 1, "", f"zanstore: {refused}\n"
     newest = {}
     for named, place, is_touch in rows:

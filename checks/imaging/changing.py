@@ -31,13 +31,9 @@ def of_byte(random, device, _):
 def of_piece(random, data, _):
     begin = random.randrange(len(data))
     end = min(len(data), begin + random.choice((1, 2, random.randrange(1, 40), len(data))))
-    kind = random.choice(("cut", "doubled", "left out", "put behind"))
-    made = {
-        "cut": data[:begin],
-        "doubled": data[:end] + data[begin:end] + data[end:],
-        "left out": data[:begin] + data[end:],
-        "put behind": data + data[begin:end],
-    }[kind]
+    before, piece, behind = data[:begin], data[begin:end], data[end:]
+    kinds = {"cut": before, "doubled": before + piece + piece + behind, "left out": before + behind, "put behind": data + piece}
+    kind, made = random.choice([*kinds.items()])
     return f"a piece {kind}", made
 
 
@@ -140,35 +136,27 @@ def a_stranger(random, images):
 
 def of_batch(random, device, _):
     batches, at, _ = some_record(random, device)
-    kind = random.choice(("left out", "doubled", "of another version", "joined"))
-    made = {
+    kinds = {
         "left out": batches[at + 1 : at + 2],
         "doubled": [batches[at], *batches[at : at + 2]],
         "of another version": [(random.choice((0, 1, 2, 3)), batches[at][1]), *batches[at + 1 : at + 2]],
         "joined": [(2, [made for _, some in batches[at : at + 2] for made in some])],
-    }[kind]
+    }
+    kind, made = random.choice([*kinds.items()])
     return f"a batch {kind}", device_bytes([*batches[:at], *made, *batches[at + 2 :]])
 
 
 def of_identity(random, image):
     """The bytes as they are, of another node, store or number of shards."""
-    kind = random.choice(("node", "store", "number of shards"))
-    other = {
-        "node": {"node": random.choice([0xFF, *range(image.shards)])},
-        "store": {"store": (image.store + random.choice((1, 2**32 - 1))) % 2**32},
-        "number of shards": {"shards": min(64, image.shards + 1)},
-    }[kind]
+    node, store = random.choice([0xFF, *range(image.shards)]), (image.store + random.choice((1, 2**32 - 1))) % 2**32
+    kinds = {"node": {"node": node}, "store": {"store": store}, "number of shards": {"shards": min(64, image.shards + 1)}}
+    kind, other = random.choice([*kinds.items()])
     return f"opened with another {kind}", image._replace(**other)
 
 
 def of_banks(random, image):
     """The banks in each other's place, one of them twice, or one of them gone."""
-    kind = random.choice(("swapped", "of bank a twice", "of bank b twice", "without bank a", "without bank b"))
-    other = {
-        "swapped": {"a": image.b, "b": image.a},
-        "of bank a twice": {"b": image.a},
-        "of bank b twice": {"a": image.b},
-        "without bank a": {"a": random.choice((b"", b"\0", b"\xa5"))},
-        "without bank b": {"b": random.choice((b"", b"\0", b"\xa5"))},
-    }[kind]
-    return f"banks {kind}", image._replace(**other)
+    a, b, gone = image.a, image.b, random.choice((b"", b"\0", b"\xa5"))
+    kinds = {"swapped": (b, a), "of bank a twice": (a, a), "of bank b twice": (b, b), "without bank a": (gone, b), "without bank b": (a, gone)}
+    kind, (a, b) = random.choice([*kinds.items()])
+    return f"banks {kind}", image._replace(a=a, b=b)

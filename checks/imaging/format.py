@@ -28,6 +28,8 @@ KINDS = {1: Prepare, 2: Learned, 3: Dropped, 4: Epoch, 5: Decision, 6: Horizon}
 CHECKPOINT = 7
 # How each record begins.
 BEGINS = {shape: bytes([kind]) for kind, shape in KINDS.items()} | {shape: bytes([CHECKPOINT, mark]) for mark, shape in enumerate(MARKS)}
+# How many bytes a field that is a number has, if not eight.
+LENGTHS = {"shards": 1, "node": 1}
 # What a condition asks for; the first with a place.
 NOT_AFTER, EXISTS, ABSENT = 1, 2, 3
 
@@ -50,6 +52,8 @@ class Rules:
 
 
 class Bytes:
+    """How great a number may be is a rule of the list that a node reads, and not of a batch."""
+
     def __init__(self, rules, bytes):
         self.must, self.bytes, self.at = rules.must, bytes, 0
 
@@ -61,17 +65,13 @@ class Bytes:
     def number(self, count):
         return int.from_bytes(self.take(count), "big")
 
-    def place(self):
-        """A place, an epoch or a number. How great it may be is a rule of the list that a node reads, and not of a batch."""
-        return self.number(8)
-
     def text(self, shape):
         found = self.take(self.number(1))
         self.must(shape.fullmatch(found), "a text is in its grammar")
         return found.decode()
 
     def id(self):
-        found = (self.place(), self.place())
+        found = (self.number(8), self.number(8))
         self.must(min(found) >= 1, "an epoch and a number of a write are from 1 on")
         return found
 
@@ -93,36 +93,29 @@ class Bytes:
 
     def condition(self, version):
         named = self.tuple()
-        if version == 1:
-            return named, NOT_AFTER, self.place()
-        want = self.number(1)
+        want = self.number(1) if version > 1 else NOT_AFTER
         self.must(want in (NOT_AFTER, EXISTS, ABSENT), "a condition asks for one of three things")
-        return named, want, self.place() if want == NOT_AFTER else None
-
-    def listed(self, count, one):
-        return tuple(one() for _ in range(count))
+        return named, want, self.number(8) if want == NOT_AFTER else None
 
     def some(self, least, most, one):
         count = self.number(1)
         self.must(least <= count <= most, "a write has its number of changes and conditions")
-        return self.listed(count, one)
+        return tuple(one() for _ in range(count))
 
     def placed(self):
         count = self.number(2)
         self.must(count <= 256, "a learned record has at most 256 placed ids")
-        return self.listed(count, lambda: (self.id(), self.place()))
+        return tuple((self.id(), self.number(8)) for _ in range(count))
 
     def field(self, name, shape, version):
         match name:
-            case "place" | "epoch" | "generation":
-                return self.place()
+            case "id" | "change" | "placed":
+                return getattr(self, name)()
             case "changes":
                 return self.some(shape is Decision, 64, self.change)
             case "conditions":
                 return self.some(0, 16, lambda: self.condition(version))
-            case "store" | "shards" | "node":
-                return self.number(8 if name == "store" else 1)
-        return getattr(self, name)()
+        return self.number(LENGTHS.get(name, 8))
 
     def record(self, version):
         kind = self.number(1)
@@ -198,9 +191,8 @@ def id_bytes(id):
 
 def condition_bytes(version, condition):
     named, want, place = condition
-    if version == 1:
-        return tuple_bytes(named) + number(8, place or 0)
-    return tuple_bytes(named) + number(1, want) + (number(8, place) if want == NOT_AFTER else b"")
+    kind = number(1, want) if version > 1 else b""
+    return tuple_bytes(named) + kind + (number(8, place or 0) if want == NOT_AFTER or version == 1 else b"")
 
 
 def change_bytes(change):
@@ -220,7 +212,7 @@ def field_bytes(version, name, value):
             return number(1, len(value)) + b"".join(condition_bytes(version, one) for one in value)
         case "placed":
             return number(2, len(value)) + b"".join(id_bytes(id) + number(8, place) for id, place in value)
-    return number(1 if name in ("shards", "node") else 8, value)
+    return number(LENGTHS.get(name, 8), value)
 
 
 def record_bytes(version, made):
