@@ -20,6 +20,7 @@ import signal
 import subprocess
 import tempfile
 import threading
+from collections import namedtuple
 from pathlib import Path
 
 import programs
@@ -38,11 +39,8 @@ NUMBER = re.compile(r"2\^(\d+)( - 1)?|\d[\d,]*")
 SHOWN = HOST + ":7700"
 
 
-class Block:
-    def __init__(self, line, words, before):
-        self.line, self.words, self.before, self.text = line, words, before, []
-
-    kind = property(lambda self: self.words[0] if self.words else "")
+# A fenced block: the number of its first line, of what kind it is, the words behind that, the text before it and its own lines.
+Block = namedtuple("Block", "line kind words before text")
 
 
 def blocks_of(page):
@@ -51,7 +49,8 @@ def blocks_of(page):
     for number, line in enumerate(page.split("\n"), 1):
         fence = line.startswith("```")
         if fence and block is None:
-            block = Block(number, line[3:].split(), "\n".join(before))
+            kind, *words = line[3:].split() or [""]
+            block = Block(number, kind, words, "\n".join(before), [])
         elif fence:
             blocks.append(block)
             block, before = None, []
@@ -79,20 +78,14 @@ def difference(wanted, told):
 def named_script(block):
     """Where the text before it names a script of examples/, why this is another one."""
     found = re.findall(r"[Ss]cript \[[^\]]*\]\([^)]*examples/([^)]*)\.script\)", block.before)
-    if not found:
-        return None
-    path = TOP / "examples" / (found[-1] + ".script")
-    if not path.exists():
-        return None
-    lines = [line for line in path.read_text().splitlines() if not line.startswith(";")]
-    return None if lines == block.text else f"is not examples/{found[-1]}.script"
+    is_other = found and Path(TOP, "examples", f"{found[-1]}.script").exists() and programs.example(found[-1]) != block.text
+    return f"is not examples/{found[-1]}.script" if is_other else None
 
 
 def run_pair(block, answer):
     if block.kind == "requests":
         return difference(answer.text, printed((*harness("session"),), lines_of(block.text)))
-    words = (PROGRAM, "sim", *block.words[1:])
-    return named_script(block) or difference(answer.text, printed(words, lines_of(block.text)))
+    return named_script(block) or difference(answer.text, printed((PROGRAM, "sim", *block.words), lines_of(block.text)))
 
 
 def commands_of(text):
@@ -150,17 +143,12 @@ def run_console(block):
 
 
 def faults_of_blocks(blocks):
-    answers = set(FOLLOWS.values())
-    for at, block in enumerate(blocks):
-        after = blocks[at + 1] if at + 1 < len(blocks) else None
-        found = None
-        if block.kind in FOLLOWS:
-            wanted = FOLLOWS[block.kind]
+    for before, block, after in zip([None, *blocks], blocks, [*blocks[1:], None]):
+        found = run_console(block) if block.kind == "console" else None
+        if wanted := FOLLOWS.get(block.kind):
             found = run_pair(block, after) if after and after.kind == wanted else f"has no block {wanted} behind it"
-        elif block.kind in answers and (at == 0 or FOLLOWS.get(blocks[at - 1].kind) != block.kind):
+        elif block.kind in FOLLOWS.values() and (not before or FOLLOWS.get(before.kind) != block.kind):
             found = "stands behind no example"
-        elif block.kind == "console":
-            found = run_console(block)
         if found:
             yield block.line, f"the block {block.kind} {found}"
 
@@ -191,13 +179,10 @@ def value_of(source, name):
 
 
 def number_of(cell):
-    found = [*NUMBER.finditer(cell)]
-    if not found:
-        return None
-    last = found[-1]
-    if last[1]:
-        return 2 ** int(last[1]) - (1 if last[2] else 0)
-    return int(last[0].replace(",", ""))
+    *_, last = [None, *NUMBER.finditer(cell)]
+    if last and last[1]:
+        return 2 ** int(last[1]) - bool(last[2])
+    return last and int(last[0].replace(",", ""))
 
 
 def faults_of_limit(folder, cells):
@@ -223,10 +208,7 @@ def words_of_crate(crate):
 
 def faults_of_names(where, crates, names):
     known = {word for crate in crates for word in words_of_crate(crate)}
-    for name in names:
-        missing = [word for word in re.findall(r"\w+", name) if word not in known]
-        if missing:
-            yield f"{missing[0]} is not in {where}"
+    yield from (f"{word} is not in {where}" for name in names for word in re.findall(r"\w+", name) if word not in known)
 
 
 def faults_of_rows(folder, plain):
@@ -265,7 +247,7 @@ def files_of_laws():
 
 
 def faults_of_comments(path, laws):
-    return [f"the law {name} of {path} has no comment" for name, has_comment in laws if not has_comment]
+    return [(1, f"the law {name} of {path} has no comment") for name, has_comment in laws if not has_comment]
 
 
 def faults_of_laws(folder, plain):
@@ -274,7 +256,7 @@ def faults_of_laws(folder, plain):
     for file in rows ^ {*files_of_laws()}:
         yield 1, f"{file} has {'laws and no row' if file not in rows else 'a row and no law'}"
     for file, laws in files_of_laws().items():
-        yield from ((1, found) for found in faults_of_comments(file, laws))
+        yield from faults_of_comments(file, laws)
 
 
 def faults_of(path, page):
