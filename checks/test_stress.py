@@ -8,13 +8,13 @@ from pathlib import Path
 import pytest
 
 from judge.definitions import events, home, snapshot
-from judge.lines import REFUSALS
+from judge.lines import REFUSALS, Refused
 from judge.worlds import Wrong
 from programs import harness, lines_of
 from stressing import calls
 from stressing.calls import Check, Fail, Read, Restart, Watch, Write
 from stressing.judging import RULES, judged
-from stressing.plain_store import SHARDS, Refused, Store, sample
+from stressing.plain_store import SHARDS, Store, sample
 from stressing.reading import lines_in, read_run
 from stressing.spoiling import KINDS, spoiled
 from verdicts import all_noticed, none
@@ -88,7 +88,7 @@ def made_nonetheless(codes, first=0):
                 return super().write(number, write)
             except Refused as refused:
                 changes = write.changes[first:]
-                if refused.code in codes and changes and self.shown == len(self.log):
+                if refused.number in codes and changes and self.shown == len(self.log):
                     self.log.append(write._replace(changes=changes))
                     self.shown += 1
                 raise

@@ -3,6 +3,7 @@ from judge.definitions import Change
 from judge.lines import read_tuple
 from stressing.calls import Caller, Check, Read, Run, Watch
 from stressing.history import History, Moments
+from stressing.judging import FOUND
 from verdicts import Choosing
 
 # Between two ticks of a run that is to be spoiled there is room for others.
@@ -19,17 +20,10 @@ def roomy(run):
 
 def fitted(call, history, place=None):
     """The answer as the log has it, at its own place or at this one."""
-    asked = call.asked
     place = call.place if place is None else place
-    if place is None or place > len(history.log) or call.code:
+    if place is None or place > len(history.log) or call.code or not isinstance(call.asked, (Read, Check, Watch)):
         return call
-    if isinstance(asked, Read):
-        return call._replace(place=place, found=history.rows(asked.set, place))
-    if isinstance(asked, Check):
-        return call._replace(place=place, found=history.is_member(asked.tuple, place))
-    if isinstance(asked, Watch):
-        return call._replace(place=place, found=history.events(asked.start, place, asked.namespaces))
-    return call
+    return call._replace(place=place, found=FOUND[type(call.asked)][1](history, call.asked, place))
 
 
 class Ground(Choosing):

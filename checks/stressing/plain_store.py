@@ -4,16 +4,10 @@ from random import Random
 
 from judge import definitions
 from judge.definitions import Change, Condition, tuple_text
-from judge.lines import read_tuple, read_tupleset
+from judge.lines import Refused, read_tuple, read_tupleset
 from stressing.calls import Call, Caller, Check, Fail, Read, Restart, Run, Watch, Write
 
 SHARDS = 3
-
-
-class Refused(Exception):
-    def __init__(self, code):
-        super().__init__(code)
-        self.code = code
 
 
 class Store:
@@ -198,7 +192,7 @@ class Sample:
                 return self.store.failing.add(asked.node), None, None
             return (None, *getattr(self.store, type(asked).__name__.lower())(asked))
         except Refused as refused:
-            return refused.code, None, None
+            return refused.number, None, None
 
     def step(self, asker):
         number = asker.number
