@@ -145,10 +145,20 @@ impl<D: Device> Playing<D> {
 
     /// Begins a read, a check or a watch, which makes no call yet.
     pub(crate) fn begin(&mut self, alloc: Global, request: Request) -> Result<(), Refusal> {
-        self.questions.reserve(1)?;
-        let question = Asking::new(alloc, request)?;
-        self.questions.push_reserved(question);
-        Ok(())
+        self.keep(Asking::new(alloc, request)?)
+    }
+
+    fn keep(&mut self, question: Asking) -> Result<(), Refusal> {
+        match self.questions.reserve(1) {
+            Ok(()) => {
+                self.questions.push_reserved(question);
+                Ok(())
+            }
+            Err(refused) => {
+                drop(question);
+                Err(refused.into())
+            }
+        }
     }
 
     /// The one that was begun last makes this many calls.
@@ -158,9 +168,7 @@ impl<D: Device> Playing<D> {
         };
         let log = Some(&mut self.log);
         let left = question.turn_all(turns, &mut self.store, &mut self.told, log)?;
-        self.questions.reserve(1)?;
-        self.questions.push_reserved(left);
-        Ok(())
+        self.keep(left)
     }
 
     /// The one that was begun last makes all its calls, which are not logged.
@@ -169,9 +177,7 @@ impl<D: Device> Playing<D> {
             return Err(Refusal::BadRequest);
         };
         let left = question.turn_all(MOST_TURNS, &mut self.store, &mut self.told, None)?;
-        self.questions.reserve(1)?;
-        self.questions.push_reserved(left);
-        Ok(())
+        self.keep(left)
     }
 
     /// The one that was begun last goes to its end.

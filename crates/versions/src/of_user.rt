@@ -1,10 +1,10 @@
 // The tuples of a namespace that name a user, by the index.
-ghost use Rattle.std.specs.Prelude.{◌≡◌, ◌≤◌, ◌+◌, IfOk};
+ghost use Rattle.std.specs.Prelude.{◌≡◌, ◌≤◌, ◌+◌, ◌++◌, ◌∷◌, [], IfOk, OnOk};
 ghost use Rattle.tuples.specs.Reads.{IsSelection};
 ghost use Rattle.tuples.specs.Versions.{there_at};
 ghost use Rattle.tuples.specs.declared.tupleset.Tupleset.TheVariants.{OfUser as of_user};
-ghost use Rattle.versions.specs.Budget.{weights};
-ghost use Rattle.versions.specs.Index.{IsIndex, count_met, is_of_user};
+ghost use Rattle.versions.specs.Budget.{weight, weights};
+ghost use Rattle.versions.specs.Index.{IsFirstOf, IsIndex, count_met, is_of_user};
 ghost use Rattle.versions.specs.Rows.{IsTable, listed};
 
 use crate::asks::has_given;
@@ -41,22 +41,48 @@ pub(crate) fn kept_of_user<L: Ledger>(
     ensures counted { IfOk result (λ tuples. budget.new + weights tuples.items ≡ budget.old) }
     ensures steps { steps.new ≤ steps.old + count_met (of_user asked.entry.namespace.now asked.entry.user.now asked.entry.relation.now) (listed table.now.entries) }
 {
-    let first = first_of_user(alloc, asked.namespace, asked.user)?;
-    let start = PackedByUser::of(alloc, &first)?;
+    let start = start_of(alloc, asked)?;
     let mut tuples = Vec::new(alloc);
     for named in users.range(start..) {
         let tuple = named.tuple(alloc)?;
         if !is_of(asked.namespace, asked.user, &tuple) {
+            drop(tuple);
             return Ok(tuples);
         }
         if has_given(asked.relation, &tuple) && is_there_at(rows_of(table, &tuple), place, steps) {
-            budget.take(&tuple)?;
-            tuples.push(tuple)?;
+            push_counted(&mut tuples, budget, tuple)?;
         } else {
             drop(tuple);
         }
     }
     Ok(tuples)
+}
+
+// Where the tuples begin in the index.
+fn start_of(alloc: Global, asked: OfUser) -> Result<PackedByUser, AllocError>
+    ensures { IfOk result (λ start. IsFirstOf asked.entry.namespace.now asked.entry.user.now start) }
+{
+    let first = first_of_user(alloc, asked.namespace, asked.user)?;
+    let start = PackedByUser::of(alloc, &first);
+    drop(first);
+    start
+}
+
+// Adds a tuple, which is counted.
+fn push_counted(
+    tuples: &mut Vec<Tuple>,
+    budget: &mut Budget,
+    tuple: Tuple,
+) -> Result<(), AllocError>
+    ensures { OnOk result ((tuples.new.items ≡ tuples.old.items ++ tuple ∷ []) × (budget.new + weight tuple ≡ budget.old)) }
+{
+    match budget.take(&tuple) {
+        Ok(()) => Ok(tuples.push(tuple)?),
+        Err(refused) => {
+            drop(tuple);
+            Err(refused)
+        }
+    }
 }
 
 // Whether the tuple is of the namespace and names the user.

@@ -42,28 +42,43 @@ fn main(rt: HostRuntime) -> ExitCode {
         let _ = eprintln!(rt; "zanstore: /: {error}");
         return ExitCode::from(FAILED);
     }
-    let Ok(args) = env::args(&rt) else {
-        return ExitCode::from(USAGE);
+    ExitCode::from(run(&rt, &rt))
+}
+
+// Does what the words of the command line say.
+fn run<R>(rt: &R, host: &HostRuntime) -> u8
+where
+    R: Runtime + Net<Listener = TcpListener, Stream = TcpStream> + Threads + Wait + Sync,
+{
+    let Ok(args) = env::args(host) else {
+        return USAGE;
     };
-    let Ok(words) = args.collect::<Vec<String>>(rt.alloc()) else {
-        return ExitCode::from(USAGE);
+    let Ok(words) = args.collect::<Vec<String>>(host.alloc()) else {
+        return USAGE;
     };
-    if ServeSettings::are_for(&words) {
-        return ExitCode::from(run_server(&rt, &rt, &words));
+    run_words(rt, host, &words)
+}
+
+fn run_words<R>(rt: &R, host: &HostRuntime, words: &[String]) -> u8
+where
+    R: Runtime + Net<Listener = TcpListener, Stream = TcpStream> + Threads + Wait + Sync,
+{
+    if ServeSettings::are_for(words) {
+        return run_server(rt, host, words);
     }
-    if DumpSettings::are_for(&words) {
-        return ExitCode::from(run_dump(&rt, &rt, &words));
+    if DumpSettings::are_for(words) {
+        return run_dump(rt, host, words);
     }
-    if ReshardSettings::are_for(&words) {
-        return ExitCode::from(run_reshard(&rt, &rt, &words));
+    if ReshardSettings::are_for(words) {
+        return run_reshard(rt, host, words);
     }
-    if CallSettings::are_for(&words) {
-        return ExitCode::from(run_call(&rt, &rt, &words));
+    if CallSettings::are_for(words) {
+        return run_call(rt, host, words);
     }
-    if Settings::are_for(&words) {
-        return ExitCode::from(run_script(&rt));
+    if Settings::are_for(words) {
+        return run_script(host);
     }
-    ExitCode::from(tell_of_program(&rt, &words))
+    tell_of_program(host, words)
 }
 
 // Serves what the words ask for.

@@ -25,7 +25,7 @@ loop-named-init g c =
     let u = c.args.asked.user.now in
     let r = c.args.asked.relation.now in
     let first = c.in_ok-start.start in
-    let starts : IsFirstOf n u first = let is : c.in_ok-start.start ≡ c.in_ok-first.first = search rules in subst (IsFirstOf n u) (sym is) c.in_ok-first.ensures in
+    let starts : IsFirstOf n u first = c.in_ok-start.ensures in
     let es : Entries = c.args.table.now.entries in
     let us : List Tuple = c.args.users.now.keys in
     let p : Tuple → Bool = λ t. is_le (by_user_cmp first t) && true in
@@ -78,23 +78,8 @@ returns-clause-steps g c = sum_most (meets (asked_of c.args.asked)) (listed c.ar
 pub returns-in_err-tuple-clause-steps : goal.returns-in_err-tuple-clause-steps
 returns-in_err-tuple-clause-steps g c = sum_most (meets (asked_of c.args.asked)) (listed c.args.table.now.entries) c.args.users.now.keys c.loop-named.named-iterator c.loop-named.steps c.args.steps.now c.range-named-items.ensures.ordered c.loop-named.invariant.2
 
-pub returns-in_err-take-clause-steps : goal.returns-in_err-take-clause-steps
-returns-in_err-take-clause-steps g c =
-    let place = c.args.place in
-    let q = meets (asked_of c.args.asked) in
-    let es : Entries = c.args.table.now.entries in
-    let t : Tuple = c.in-Some.named.now in
-    let rest : List Tuple = c.next.new.self in
-    let cut : c.loop-named.named-iterator ≡ t ∷ rest = search rules in
-    let tuple : c.in_ok-tuple.tuple ≡ t = search rules in
-    let has : q t ≡ true = met (same_name t.object.namespace c.args.asked.namespace.now) (is_eq (user_cmp t.user c.args.asked.user.now)) (has_relation c.args.asked.relation.now t) (search rules) (search rules) in
-    let own : versions_of t c.rows_of.result.now ≡ of_tuple t (listed es) = subst (λ (x : Tuple). versions_of x c.rows_of.result.now ≡ of_tuple x (listed es)) tuple c.rows_of.ensures.versions in
-    let more : c.is_there_at.new.steps ≡ c.loop-named.steps + length (of_tuple t (listed es)) = c.is_there_at.ensures.steps ∙ ap (λ (m : ℕ). c.loop-named.steps + m) (rows_count t c.rows_of.result.now (listed es) own) in
-    let counted = seen q t (listed es) rest c.loop-named.named-iterator c.is_there_at.new.steps c.loop-named.steps (c.args.steps.now + sum_of q (listed es) c.args.users.now.keys) has more cut c.loop-named.invariant.2 in
-    sum_most q (listed es) c.args.users.now.keys rest c.is_there_at.new.steps c.args.steps.now c.range-named-items.ensures.ordered counted
-
-pub returns-in_err-push-clause-steps : goal.returns-in_err-push-clause-steps
-returns-in_err-push-clause-steps g c =
+pub returns-in_err-push_counted-clause-steps : goal.returns-in_err-push_counted-clause-steps
+returns-in_err-push_counted-clause-steps g c =
     let place = c.args.place in
     let q = meets (asked_of c.args.asked) in
     let es : Entries = c.args.table.now.entries in
@@ -126,7 +111,7 @@ loop-named-preserved-then-is_there_at g c =
     there_by_own place t es c.rows_of.result.now (subst (λ (x : Tuple). c.rows_of.result.now ≡ rows_in (found x es)) tuple c.rows_of.ensures.rows)
     ∙ sym (c.is_there_at.ensures.there t) ∙ c.if-is_there_at.true
     in
-    let pushed : c.push.new.self.items ≡ items ++ t ∷ [] = search rules in (
+    let pushed : c.push_counted.new.tuples.items ≡ items ++ t ∷ [] = subst (λ (x : Tuple). c.push_counted.new.tuples.items ≡ items ++ x ∷ []) tuple c.in_ok-push_counted.ensures.0 in (
       (c.loop-named.invariant.0.0, c.loop-named.invariant.0.1, walk_by_rest c.loop-named.invariant.0.0 t rest (subst (IsWalkBy c.loop-named.invariant.0.0) cut c.loop-named.invariant.0.2)),
       ap (λ (l : List Tuple). l ++ chosen_of place q es rest) pushed
           ∙ append_assoc items (t ∷ []) (chosen_of place q es rest)
@@ -134,7 +119,7 @@ loop-named-preserved-then-is_there_at g c =
           ∙ ap (λ (l : List Tuple). items ++ chosen_of place q es l) (sym cut)
           ∙ c.loop-named.invariant.1,
       counted,
-      counted_more items c.push.new.self.items t c.loop-named.budget c.take.new.self _ pushed (subst (λ (x : Tuple). c.take.new.self + weight x ≡ c.loop-named.budget) tuple c.in_ok-take.ensures.ok) c.loop-named.invariant.3,
+      counted_more items c.push_counted.new.tuples.items t c.loop-named.budget c.push_counted.new.budget _ pushed (subst (λ (x : Tuple). c.push_counted.new.budget + weight x ≡ c.loop-named.budget) tuple c.in_ok-push_counted.ensures.1) c.loop-named.invariant.3,
     )
 
 pub loop-named-preserved : goal.loop-named-preserved
