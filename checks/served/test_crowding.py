@@ -1,5 +1,6 @@
 """More connections than workers, and clients that do not care."""
 import contextlib
+import random
 import resource
 import select
 import selectors
@@ -9,77 +10,205 @@ import time
 import pytest
 
 from judge.worlds import Wrong, must
+from programs import memory
 from serving.server import HOST, SHARDS, Server, is_beginning, lasting
 from serving.wire import LIMIT, Gone, Session, check, is_next, is_told, read, spelled, token, write
 
 GROUP = "servers"
-CROWD = 1100
-PLACES = 1024
-# The crowd takes a descriptor for each connection at both of its ends.
-resource.setrlimit(resource.RLIMIT_NOFILE, (max(4096, resource.getrlimit(resource.RLIMIT_NOFILE)[0]), resource.getrlimit(resource.RLIMIT_NOFILE)[1]))
+# Each end of a connection takes a descriptor.
+resource.setrlimit(resource.RLIMIT_NOFILE, (resource.getrlimit(resource.RLIMIT_NOFILE)[1],) * 2)
+MOST = 10_000
 ASKED = check("doc:a#viewer@ann")
 NO = {"member": False, "zookie": token(0)}
-# For so many seconds a client may take nothing of its answers, and a line that has begun, or answers of which little is taken, may keep others waiting. Far more
-# is a fault.
-SLOWEST, LATEST = 30, 300
+# A line that does not end, and answers that are not taken, make room for others after so many seconds.
+SLOWEST = 30
+MIB = 1 << 10
 
 
 def is_answered(session):
     is_told(session, ASKED, NO)
 
 
-def crowd_of(port):
-    """So many connections, each with one line sent, or none where it was ended before."""
+def crowd_of(opened, port, count, first=b""):
+    """So many connections, each with these bytes sent. A thousand come from one address: a system takes long to find a port among tens of thousands."""
     crowd = []
-    for _ in range(CROWD):
-        one = socket.create_connection((HOST, port), timeout=LIMIT)
+    for number in range(count):
+        one = opened.enter_context(socket.create_connection((HOST, port), timeout=LIMIT, source_address=(f"127.0.1.{1 + number // 1000}", 0)))
+        one.sendall(first)
         crowd.append(one)
-        with contextlib.suppress(OSError):
-            one.sendall(spelled(ASKED))
-        one.setblocking(False)
     return crowd
 
 
-def took(one, most=1024):
-    """What came over it, or nothing where it was ended."""
-    try:
-        return one.recv(most)
-    except OSError:
-        return b""
+def lines_from(one, count):
+    """The next lines, so many."""
+    got = b""
+    while got.count(b"\n") < count:
+        part = one.recv(1 << 16)
+        must(part, f"it ended behind {got[-80:]}")
+        got += part
+    return got
 
 
-def ends(crowd, enough):
-    """How many of the crowd were answered, and how many ended, as soon as it is enough; who has an answer goes."""
-    chosen, answered, closed = selectors.DefaultSelector(), 0, 0
-    for one in crowd:
-        if one.fileno() >= 0:
-            chosen.register(one, selectors.EVENT_READ)
-    late = time.monotonic() + LIMIT
-    while not enough(answered, closed) and time.monotonic() < late:
-        for key, _ in chosen.select(0.2):
-            found = took(key.fileobj)
-            must(found in (b"", spelled(NO)), f"answers {found}")
-            answered, closed = answered + bool(found), closed + (not found)
-            chosen.unregister(key.fileobj)
-            key.fileobj.close()
-    return answered, closed
+class Asking:
+    """Clients of one thread: each asks, is answered, waits for as long as `pause` says, and asks again. What each was told is looked at."""
+
+    def __init__(self, crowd, pause=lambda: 0):
+        self.crowd, self.pause, self.chosen = crowd, pause, selectors.DefaultSelector()
+        self.counts, self.times, self.begun, self.late = [0] * len(crowd), [], {}, []
+        for number, one in enumerate(crowd):
+            self.chosen.register(one, selectors.EVENT_READ, number)
+
+    def ask(self, number):
+        self.begun[number] = time.monotonic()
+        self.crowd[number].sendall(spelled(ASKED))
+
+    def take(self, number):
+        found = self.crowd[number].recv(1024)
+        must(found == spelled_answer(NO), f"answers {found}")
+        self.times.append(time.monotonic() - self.begun.pop(number))
+        self.counts[number] += 1
+        self.late.append((time.monotonic() + self.pause(), number))
+
+    def run(self, seconds):
+        """They ask for so long; then each has its last answer."""
+        for number in range(len(self.crowd)):
+            self.ask(number)
+        end = time.monotonic() + seconds
+        while self.begun or time.monotonic() < end:
+            must(time.monotonic() < end + LIMIT, f"{len(self.begun)} clients wait for their answers")
+            for key, _ in self.chosen.select(0.001 if self.late else 0.1):
+                self.take(key.data)
+            now, later = time.monotonic(), self.late
+            self.late = [one for one in later if now < one[0]] if now < end else []
+            for _, number in later if now < end else ():
+                if number not in self.begun and all(number != it for _, it in self.late):
+                    self.ask(number)
 
 
-def test_crowded(folder):
-    """1,100 connections at once: 1,024 wait and are served in the end, the others are closed"""
-    with Server(folder, workers=2, idle=LIMIT) as server, contextlib.ExitStack() as opened:
-        holders = [Session(server.port) for _ in range(2)]
-        for holder in holders:
-            is_answered(holder)
-        crowd = [*map(opened.enter_context, crowd_of(server.port))]
-        answered, closed = ends(crowd, lambda _, closed: closed >= CROWD - PLACES)
-        must((answered, closed) == (0, CROWD - PLACES), f"while all workers were held {answered} were answered, and {closed} closed")
-        for holder in holders:
-            is_answered(holder)
-            holder.close()
-        answered, closed = ends(crowd, lambda answered, closed: answered + closed == PLACES)
-        must((answered, closed) == (PLACES, 0), f"of those that waited {answered} were answered, and {closed} closed")
-        with Session(server.port) as session:
+def spelled_answer(answer):
+    return spelled(answer)
+
+
+def are_fair(asking, worst):
+    """Each was answered at least a quarter as often as the mean, and none waited for longer than the worst."""
+    counts, times = asking.counts, sorted(asking.times)
+    must(min(counts) >= sum(counts) / len(counts) / 4, f"one was answered {min(counts)} times, and the mean is {sum(counts) / len(counts):.0f}")
+    must(times[-1] < worst, f"an answer took {times[-1]:.2f} s, and 99 of 100 less than {times[len(times) * 99 // 100]:.3f} s")
+
+
+def holds(server, silent, halves, active, seconds, worst):
+    """So many connections that are silent, have sent half a line, and ask: these are answered, and then each half line is ended and answered."""
+    half, rest = spelled(ASKED)[:20], spelled(ASKED)[20:]
+    with contextlib.ExitStack() as opened:
+        crowd_of(opened, server.port, silent)
+        begun = crowd_of(opened, server.port, halves, half)
+        asking = Asking(crowd_of(opened, server.port, active))
+        before = memory(server.child, "VmRSS")
+        asking.run(seconds)
+        are_fair(asking, worst)
+        must(memory(server.child, "VmRSS") < before + 64 * MIB, "it takes more and more memory")
+        for one in begun:
+            one.sendall(rest)
+        for one in begun:
+            must(lines_from(one, 1) == spelled_answer(NO), "half a line is answered wrongly once it ends")
+
+
+def test_a_thousand(folder):
+    """a thousand connections and four workers: those that ask are answered beside those that are silent or have sent half a line"""
+    with Server(folder) as server:
+        holds(server, 600, 300, 100, 3, LIMIT)
+
+
+@pytest.mark.long
+@pytest.mark.skipif(resource.getrlimit(resource.RLIMIT_NOFILE)[1] < 2 * MOST, reason="descriptors are few")
+def test_ten_thousand(folder):
+    """ten thousand connections and eight workers; behind `kill -9` a server starts at once"""
+    with Server(folder, workers=8) as server:
+        holds(server, 6000, 3000, 1000, 10, LIMIT)
+        with contextlib.ExitStack() as opened:
+            crowd_of(opened, server.port, MOST)
+            server.kill()
+    with Server(folder) as server, Session(server.port) as session:
+        is_answered(session)
+
+
+def test_any_cut(folder):
+    """lines of fifty connections that come in pieces of any length are answered as whole ones, in their order"""
+    chance = random.Random(7)
+    lines = [(spelled(ASKED), spelled_answer(NO)), (b"{}\n", b'{"error":1,"name":"BadRequest"}\n'), (b"\n", b'{"error":1,"name":"BadRequest"}\n')]
+    with Server(folder) as server, contextlib.ExitStack() as opened:
+        crowd = crowd_of(opened, server.port, 50)
+        asked = [chance.choices(lines, k=200) for _ in crowd]
+        left = {one: b"".join(line for line, _ in some) for one, some in zip(crowd, asked)}
+        while left:
+            one = chance.choice(list(left))
+            count = chance.randint(1, 300)
+            one.sendall(left[one][:count])
+            left[one] = left[one][count:]
+            if not left[one]:
+                del left[one]
+        for one, some in zip(crowd, asked):
+            must(lines_from(one, len(some)) == b"".join(answer for _, answer in some), "other answers than to whole lines")
+
+
+def test_pipelined(folder):
+    """a client that sends lines ahead and reads nothing for seconds: others are answered meanwhile, and it gets all answers"""
+    with Server(folder, workers=2) as server, Session(server.port) as ahead, Session(server.port) as other:
+        ahead.socket.setblocking(False)
+        lines, sent, end = spelled(ASKED) * 50_000, 0, time.monotonic() + 3
+        while time.monotonic() < end:
+            with contextlib.suppress(BlockingIOError):
+                sent += ahead.socket.send(lines[sent : sent + 65536])
+            with lasting("an answer beside one who reads none", most=2):
+                is_answered(other)
+        ahead.socket.settimeout(LIMIT)
+        whole = sent // len(spelled(ASKED))
+        must(lines_from(ahead.socket, whole) == spelled_answer(NO) * whole, "other answers than to its lines")
+
+
+def test_nothing_lost(folder):
+    """clients that pause for some milliseconds, as long as a worker waits for their next line: no answer takes long"""
+    with Server(folder) as server, contextlib.ExitStack() as opened:
+        asking = Asking(crowd_of(opened, server.port, 64), lambda: random.random() * 0.009)
+        asking.run(5)
+        must(max(asking.times) < 3, f"an answer took {max(asking.times):.2f} s")
+
+
+def are_held(port, count):
+    """So many sessions, each answered once."""
+    sessions = [Session(port) for _ in range(count)]
+    for session in sessions:
+        is_answered(session)
+    return sessions
+
+
+def test_full(folder):
+    """`--held 20`: one more is closed at once; once one was idle for `--idle` seconds, the longest idle one makes room, though it has sent half a line"""
+    with Server(folder, held=20, idle=3) as server:
+        first, *others = are_held(server.port, 20)
+        first.send(spelled(ASKED)[:20])
+        with Session(server.port) as more:
+            must(more.is_ended(), "one more than may be is held")
+        time.sleep(2)
+        for session in others:
+            is_answered(session)
+        first.send(spelled(ASKED)[20:30])
+        time.sleep(2)
+        with Session(server.port) as more:
+            is_answered(more)
+            must(first.is_ended(), "another one than the longest idle makes room")
+            for session in others:
+                is_answered(session)
+
+
+def test_idle_for_ever(folder):
+    """`--idle 0`: who is idle makes no room"""
+    with Server(folder, held=2, idle=0) as server:
+        sessions = are_held(server.port, 2)
+        time.sleep(2)
+        with Session(server.port) as more:
+            must(more.is_ended(), "one more than may be is held")
+        for session in sessions:
             is_answered(session)
 
 
@@ -89,6 +218,10 @@ def fill(port):
         for number in range(8):
             rows = [f"+doc:list#viewer@{number}.{row}.{'x' * 90}" for row in range(64)]
             is_told(session, write(*rows), {"zookie": token(number + 1)})
+
+
+# What another one is answered behind that.
+BEHIND = {"member": False, "zookie": token(8)}
 
 
 def filled(port, room=None):
@@ -108,8 +241,8 @@ def filled(port, room=None):
 
 
 def test_never_reads(folder):
-    """a client that never reads, and others go on"""
-    with Server(folder, workers=2) as server:
+    """a client that never reads, and others go on, by one worker too"""
+    with Server(folder, workers=1) as server:
         fill(server.port)
         with filled(server.port), Session(server.port) as session:
             for number in range(20):
@@ -119,144 +252,60 @@ def test_never_reads(folder):
                 is_told(session, check("doc:a19#viewer@ann"), {"member": True, "zookie": token(28)})
 
 
-@contextlib.contextmanager
-def only_worker_taken(folder, **options):
-    """A server of one worker, and a client that has it and reads no answer, of little room for answers."""
-    with Server(folder, workers=1, **options) as server:
-        fill(server.port)
-        with filled(server.port, 4096) as taking:
-            yield server, taking
-
-
-# The answer to the one that waits.
-BEHIND = {"member": False, "zookie": token(8)}
-
-
-def is_cut(one):
-    """Whether the server has ended a connection: behind what was sent there comes nothing more."""
-    try:
-        while one.recv(1 << 20):
-            pass
-    except OSError as ended:
-        return not isinstance(ended, TimeoutError)
-    return True
-
-
 @pytest.mark.long
 def test_unread_answers(folder):
-    """a client that never reads has the only worker for half a minute at least, loses it in the end, and who waits is answered"""
-    with Server(folder, workers=1) as server:
+    """a client that never reads is closed for another one, though idle ones are not, behind half a minute"""
+    with Server(folder, workers=1, idle=0, held=1) as server:
         fill(server.port)
-        with lasting("a client that reads nothing has its worker", SLOWEST):
-            unread, other = filled(server.port), Session(server.port, LATEST)
-            is_told(other, ASKED, BEHIND)
-        with unread, other:
-            must(is_cut(unread), "the client that reads nothing has a connection still, and there is one worker")
+        # Its place is free soon.
+        time.sleep(1)
+        with filled(server.port, 4096) as unread:
+            with Session(server.port) as more:
+                must(more.is_ended(), "one more than may be is held")
+            time.sleep(SLOWEST)
+            with Session(server.port) as more:
+                is_told(more, ASKED, BEHIND)
+            with contextlib.suppress(OSError):
+                while unread.recv(1 << 20):
+                    pass
 
 
-def sips(one, seconds, *others, goes_on=lambda: True, most=100):
-    """For how long bytes of answers were taken, up to so many twice a second, while it goes on and nothing comes to the others."""
+def sips(one, seconds, goes_on=lambda: True, most=100):
+    """For how long bytes of answers were taken, up to so many twice a second, while it goes on."""
     begin = time.monotonic()
-    while time.monotonic() < begin + seconds and not select.select(others, [], [], 0.5)[0] and goes_on():
-        took(one, most)
+    while time.monotonic() < begin + seconds and goes_on():
+        time.sleep(0.5)
+        with contextlib.suppress(OSError):
+            one.recv(most)
     return time.monotonic() - begin
 
 
 @pytest.mark.long
-def test_sipped_answers(folder):
-    """a client that takes a little of its answers now and then loses the only worker too, where another waits, behind half a minute"""
-    with only_worker_taken(folder) as (server, sipping), Session(server.port, LATEST) as other:
-        other.send(spelled(ASKED))
-        waited = sips(sipping, LATEST, other.socket)
-        # It has kept the worker since before, while it was filled.
-        must(SLOWEST - 10 <= waited < SLOWEST + 15, f"a client that takes 200 bytes a second kept its worker for {waited:.1f} s")
-        is_next(other, BEHIND)
-
-
-@pytest.mark.long
 def test_sipped_last(folder):
-    """nor does it keep a server that is about to end"""
-    with only_worker_taken(folder, connections=2) as (server, sipping):
-        waited = sips(sipping, LATEST, goes_on=server.goes_on)
-        must(SLOWEST - 10 <= waited < SLOWEST + 15, f"a client that takes 200 bytes a second kept a server for {waited:.1f} s")
-        server.ends()
+    """a client that takes a little of its answers now and then keeps a server that is about to end for half a minute"""
+    with Server(folder, workers=1, connections=2) as server:
+        fill(server.port)
+        with filled(server.port, 4096) as sipping:
+            waited = sips(sipping, LIMIT, server.goes_on)
+            must(SLOWEST - 10 <= waited < SLOWEST + 15, f"a client that takes 200 bytes a second kept a server for {waited:.1f} s")
+            server.ends()
 
 
-@pytest.mark.long
-def test_taken_answers(folder):
-    """one that takes them at some kilobytes a second keeps the only worker, though another waits"""
-    with only_worker_taken(folder) as (server, taking), Session(server.port) as other:
-        other.send(spelled(ASKED))
-        waited = sips(taking, 2 * SLOWEST, other.socket, most=1 << 14)
-        must(waited >= 2 * SLOWEST, f"a client that takes up to 32 KiB a second lost its worker behind {waited:.1f} s")
-        taking.close()
-        is_next(other, BEHIND)
-
-
-@pytest.mark.long
-def test_sipped_alone(folder):
-    """a client that takes a little of its answers now and then has the only worker for as long as it likes while nobody waits"""
-    with only_worker_taken(folder) as (_, sipping):
-        sips(sipping, SLOWEST + 15)
-        taken, late = 0, time.monotonic() + LIMIT
-        while taken < 1 << 20 and time.monotonic() < late:
-            some = sipping.recv(1 << 16)
-            must(some, f"its connection was ended behind {taken} bytes more")
-            taken += len(some)
-        must(taken >= 1 << 20, f"it got no more than {taken} bytes of its answers")
-
-
-def drips(session, line, pause):
-    """Whether a session is ended while it is sent a line byte by byte."""
-    for at in range(len(line)):
-        try:
-            session.send(line[at : at + 1])
-        except Gone:
-            return True
-        if select.select([session.socket], [], [], pause)[0]:
-            return session.is_ended()
-    return False
-
-
-def gives_up(server, end):
-    """That a session gives the only worker up to another one, behind half a minute; `end` tells whether it was ended."""
-    with Session(server.port, LATEST) as other:
-        other.send(spelled(ASKED))
-        with lasting("a client whose line does not end has its worker", SLOWEST - 3, SLOWEST + 15):
-            must(end(), "a client whose line does not end has its worker still")
-        # The line was not made.
-        is_next(other, NO)
-        is_answered(other)
-
-
-@pytest.mark.long
-def test_dripped_line(folder):
-    """a client that sends a byte of a line now and then loses the only worker where another waits, behind half a minute, and its line is not made"""
-    with Server(folder, workers=1, idle=10) as server, Session(server.port) as slow:
-        is_answered(slow)
-        slow.send(spelled(write("+doc:a#viewer@ann"))[:-1])
-        gives_up(server, lambda: drips(slow, b" " * 100, 0.7))
-
-
-@pytest.mark.long
-def test_silent_line(folder):
-    """so does one that sends half a line and is silent, though it may be idle for longer"""
-    with Server(folder, workers=1, idle=3600) as server, Session(server.port) as slow:
-        is_answered(slow)
-        # With a whole line in the same bytes, behind which the half one begins.
-        slow.send(spelled(ASKED) + spelled(write("+doc:a#viewer@ann"))[:-1])
-        is_next(slow, NO)
-        gives_up(server, slow.is_ended)
-
-
-@pytest.mark.long
-def test_unhurried_line(folder):
-    """a client that sends a byte of a line now and then has the only worker for as long as it likes while nobody waits"""
-    line = spelled(ASKED)
-    with Server(folder, workers=1, idle=10) as server, Session(server.port) as slow:
-        must(not drips(slow, line[:-1], 1), "a client that sends a byte now and then is cut, and nobody waits")
-        slow.send(line[-1:])
-        is_next(slow, NO)
+def test_half_lines(folder):
+    """six hundred clients with a quarter of a megabyte each of a line that does not end: memory stays bounded, and others are answered"""
+    with Server(folder) as server, contextlib.ExitStack() as opened:
+        before = memory(server.child, "VmRSS")
+        crowd = crowd_of(opened, server.port, 600)
+        for one in crowd:
+            # One that would take too much is closed.
+            with contextlib.suppress(OSError):
+                one.sendall(b" " * 262_000)
+        with Session(server.port) as session:
+            is_answered(session)
+        grown = (memory(server.child, "VmRSS") - before) / MIB
+        must(grown < 110, f"half lines take {grown:.0f} MiB")
+        ended = [one for one in crowd if select.select([one], [], [], 0)[0]]
+        must(300 < len(ended) < 400, f"{len(ended)} of 600 were closed")
 
 
 def test_resets(folder):
@@ -272,54 +321,6 @@ def test_resets(folder):
         must(server.goes_on(), "the server has ended")
 
 
-def test_idle_sessions(folder):
-    """an idle session has its worker while nobody waits, and gives it up where someone does"""
-    with Server(folder, workers=1, idle=1) as server, Session(server.port) as idle:
-        is_answered(idle)
-        time.sleep(3)
-        is_answered(idle)
-        with lasting("a session that was asked something has its worker", 0.5), Session(server.port) as other:
-            is_answered(other)
-            must(idle.is_ended(), "the idle session goes on, and there is one worker")
-
-
-def test_paused_lines(folder):
-    """a client that sent half a line and pauses has its worker while nobody waits, and gives it up where someone does; its half is not made"""
-    asked, half = spelled(ASKED), spelled(write("+doc:a#viewer@ann"))[:-1]
-    with Server(folder, workers=1, idle=1) as server, Session(server.port) as paused:
-        paused.send(asked[:20])
-        time.sleep(3)
-        paused.send(asked[20:])
-        is_next(paused, NO)
-        paused.send(half)
-        with Session(server.port) as other:
-            # Less than where `--idle` is not given.
-            with lasting("a client has its worker behind half a line", 0.5, 8):
-                is_answered(other)
-            must(paused.lines.read() == b"", "half a line is answered")
-            is_answered(other)
-
-
-def test_busy_sessions(folder):
-    """a session that asks and asks has its worker, though another waits, and so has one whose line comes byte by byte"""
-    line = spelled(ASKED)
-    with Server(folder, workers=1, idle=3) as server, Session(server.port) as busy:
-        is_answered(busy)
-        with Session(server.port) as other:
-            other.send(line)
-            # Together more than it may be idle, each far less.
-            for _ in range(8):
-                time.sleep(0.7)
-                is_answered(busy)
-            for at in range(8):
-                time.sleep(0.7)
-                busy.send(line[at : at + 1])
-            busy.send(line[8:])
-            is_next(busy, NO)
-            busy.close()
-            is_next(other, NO)
-
-
 def test_counted(folder):
     """`--connections 3`: three are served, by two workers or by one, and it ends with status 0"""
     with Server(folder, workers=2, connections=3) as server:
@@ -329,16 +330,24 @@ def test_counted(folder):
         sessions[0].close()
         is_answered(sessions[2])
         must(server.goes_on(), "it ends before all three are served")
-        is_answered(sessions[1])
-        for session in sessions[1:]:
-            session.close()
+        sessions[1].close()
+        sessions[2].close()
         must(is_beginning(server.ends(), folder, SHARDS, server.port), "tells something else")
     with Server(folder, workers=1, connections=3) as server:
-        # All are there at once, and each has the worker once the one before it has left.
-        sessions = [Session(server.port) for _ in range(3)]
-        for session in sessions:
-            is_answered(session)
+        for session in are_held(server.port, 3):
             session.close()
         server.ends()
     with Server(folder) as server, Session(server.port) as session:
         is_answered(session)
+
+
+def test_silent_last(folder):
+    """once the last connection has come, one that is silent for a second is closed, and the server ends"""
+    with Server(folder, connections=2) as server, Session(server.port) as silent:
+        is_answered(silent)
+        time.sleep(2)
+        is_answered(silent)
+        with Session(server.port) as last:
+            is_answered(last)
+        with lasting("its end", 0.5, 20):
+            server.ends()

@@ -1,5 +1,6 @@
 """Connections of other protocols: a web page, or a client of TLS, can not write."""
 import contextlib
+import time
 
 from serving.server import Server
 from test_talking import BAD_REQUEST
@@ -59,9 +60,14 @@ def test_own_protocol(folder):
 
 
 def test_half_a_method(folder):
-    """a client that sends half of a method and is silent gives the only worker up where another waits"""
-    with Server(folder, workers=1, idle=1) as server, Session(server.port) as silent:
+    """a client that sends half of a method and is silent keeps no worker, and gives its place up where another needs it"""
+    asked = (check("doc:a#viewer@ann"), {"member": False, "zookie": token(0)})
+    with Server(folder, workers=1, held=2, idle=1) as server, Session(server.port) as silent:
         silent.send(b"PO")
         with Session(server.port) as other:
-            is_told(other, check("doc:a#viewer@ann"), {"member": False, "zookie": token(0)})
-            assert took(silent) == b"", "half of a method is answered"
+            is_told(other, *asked)
+            time.sleep(2)
+            is_told(other, *asked)
+            with Session(server.port) as more:
+                is_told(more, *asked)
+                assert took(silent) == b"", "half of a method is answered"

@@ -1,7 +1,9 @@
 """What a server tells whoever keeps it running, and what ends it."""
+import contextlib
 import ctypes
 import os
 import re
+import resource
 import socket
 import subprocess
 import threading
@@ -31,37 +33,57 @@ def tells(server, wanted):
 
 
 def test_taken_workers(folder):
-    """all workers taken for a second, and how many wait, is told, once a minute; a connection that is taken at once is not"""
-    with Server(folder, workers=2, idle=LIMIT) as server:
-        server.begins(folder)
-        holders = [Session(server.port) for _ in range(2)]
-        for holder in holders:
-            is_answered(holder)
-        waiting = [Session(server.port) for _ in range(3)]
-        tells(server, "zanstore: 2 workers are taken, 3 connections wait\n")
-        time.sleep(3)
-        for holder in holders:
-            holder.close()
+    """two workers that wait for a disk, and how many requests wait for them, is told after a second"""
+    store, note, go = (os.path.join(folder, name) for name in ("store", "held", "go"))
+    os.mkdir(store)
+    with Server(store, workers=2, environment=holding(store, note, HOLD_UNTIL=go)) as server, contextlib.ExitStack() as opened:
+        server.begins(store)
+        writers = [opened.enter_context(Session(server.port)) for _ in range(2)]
+        is_told(writers[0], write("+doc:a#viewer@bob"), {"zookie": token(1)})
+        open(note, "w").close()
+        for number, writer in enumerate(writers):
+            writer.send(spelled(write(f"+doc:a#viewer@u{number}")))
+        meets(note, "held\n")
+        waiting = [opened.enter_context(Session(server.port)) for _ in range(3)]
         for session in waiting:
-            is_answered(session)
-            session.close()
+            session.send(spelled(ASKED))
+        tells(server, "zanstore: 2 workers are taken, 3 connections wait\n")
+        open(go, "w").close()
+        for session in (*writers, *waiting):
+            session.line()
         server.is_silent()
 
 
 def test_few_descriptors(folder):
-    """500 connections to a server with 64 descriptors: it says so once, and answers as soon as they are gone"""
-    with Server(folder, descriptors=64) as server:
+    """64 descriptors: it says how many connections it holds, and closes one more"""
+    with Server(folder, descriptors=64) as server, contextlib.ExitStack() as opened:
+        server.told()
+        tells(server, "zanstore: 24 connections are held at once and not 16384, since descriptors are few (ulimit -n)\n")
+        tells(server, f"zanstore: listening at {HOST}:{server.port}\n")
+        for _ in range(24):
+            is_answered(opened.enter_context(Session(server.port)))
+        with Session(server.port) as more:
+            must(more.is_ended(), "one more than may be is held")
+        server.is_silent()
+
+
+def test_no_descriptors(folder):
+    """while it has no descriptor left it says so once, goes on to answer those whom it holds, and others as soon as it has some"""
+    with Server(folder) as server, Session(server.port) as held:
         server.begins(folder)
-        with begun(server.port, 500):
+        is_answered(held)
+        pid, kind = server.child.pid, resource.RLIMIT_NOFILE
+        before = resource.prlimit(pid, kind)
+        resource.prlimit(pid, kind, (max(map(int, os.listdir(f"/proc/{pid}/fd"))) + 1, before[1]))
+        with begun(server.port, 50):
             tells(server, REFUSED)
-            # Past 1,024 tries of which none was paused for more than 10 milliseconds.
-            time.sleep(12)
-        with lasting("an answer behind the last of 500 connections", most=10), Session(server.port) as session:
+            is_answered(held)
+            # Past many tries, of which each was paused.
+            time.sleep(3)
+        resource.prlimit(pid, kind, before)
+        with lasting("an answer once there are descriptors", most=10), Session(server.port) as session:
             is_answered(session)
-        # Nothing more is told until it is killed but that its workers are taken.
-        server.child.kill()
-        rest = server.child.stderr.read().decode()
-        assert not rest or re.fullmatch("zanstore: 4 workers are taken, [0-9]+ connections wait\n", untimed(rest))
+        server.is_silent()
 
 
 def test_port_is_told(folder):

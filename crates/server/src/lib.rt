@@ -5,7 +5,7 @@
 //! Never: answers from what an earlier request has found: each connection has a session of its own over the one store, which goes on knowing what was seen.
 //! Callers rely on: the status, 0 if as many connections as were asked for came and were served, and 1 after a fault, once standard error is told of it.
 //!
-//! What each answer line says is the contract of `serve_one` (`serving`) at a session of the store (`StoreSession`): the definition's value on the list that
+//! What each answer line says is the contract of `Worker::work` (`serving`) at sessions of the store (`StoreSession`): the definition's value on the list that
 //! its caller has then seen, so a write stands there at its place, and rows, membership and events are those of the place that is told, as fresh as asked.
 //! It has one premise, the only one of `serve_over`: that what was found in the files rests at one list, of which the coordinator's files have what comes after
 //! its base (`IsAtRest`, whose laws say that what a stop leaves meets it, after checkpoints too). A refusal has its reason: a node told it, memory was refused,
@@ -17,6 +17,7 @@
 //! Start at `serve`, and for what is answered at `specs/Answered.antt`.
 #![tactic(auto)]
 
+mod descriptors;
 mod down;
 mod fault;
 mod fork;

@@ -5,6 +5,7 @@ ghost use Rattle.std.specs.Prelude.{◌≡◌, ◌⊎◌, ◌≤◌, ◌*◌, No
 
 use crate::down::{DownNodes, NodeLines};
 use crate::fault::{Fault, tell};
+use crate::descriptors::held_of;
 use crate::fork::StoreFork;
 use crate::found::Found;
 use crate::learning::{apart, blamed, learn_all};
@@ -152,8 +153,9 @@ fn forks<'a, D: Device, B: Room, G: Gate, R: Wait>(
     Ok(forks)
 }
 
-// How the sessions are served.
-fn serving_of(settings: &ServeSettings) -> Serving
+// How the sessions are served, so many at once.
+fn serving_of(settings: &ServeSettings, held: usize) -> Serving
+    ensures held { result.held ≡ held }
     ensures idle { result.idle ≡ settings.now.idle }
     ensures for_ever { settings.now.connections ≡ 0 → result.connections ≡ None }
     ensures so_many { 1 ≤ settings.now.connections → result.connections ≡ Some settings.now.connections }
@@ -163,6 +165,7 @@ fn serving_of(settings: &ServeSettings) -> Serving
         some => Some(some),
     };
     Serving {
+        held,
         idle: settings.idle,
         connections,
     }
@@ -190,7 +193,7 @@ fn serve_at<D: Device + Send + Sync, B: Room + Send + Sync, G: Gate + Sync, R>(
     pulses: Vec<Arc<Pulse, Global>>,
 ) -> io::Result<()>
 where
-    R: Runtime + Threads + Wait + Clock + Sync,
+    R: Runtime + Net + Threads + Wait + Clock + Sync,
     requires of { settings.now.store ≡ B.store }
     requires found { B.rests → HasFound B.first B.low first.old.pass }
     requires one_store { AreOfOneStore start.now.found.horizon start.now.found.latest start.now.found.learned.items }
@@ -199,7 +202,7 @@ where
     let share = &share;
     let forks = forks(rt, alloc, store, first, settings, share)?;
     let listener = &start.listener;
-    let serving = serving_of(settings);
+    let serving = serving_of(settings, held_of(rt, settings));
     let window = window_of(settings);
     let mut keeper = store.session(rt);
     let down = DownNodes::new();

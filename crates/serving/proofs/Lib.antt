@@ -1,3 +1,4 @@
-mod Looked
+mod Accepted
+mod Beginning
 mod OneMore
 mod Prefixes

@@ -1,12 +1,8 @@
--- A session more that was served.
-use Rattle.std.proofs.Common.{ℕ, List, [], ◌∷◌, ◌++◌}
+-- A turn more that was made.
+use Rattle.std.proofs.Common.{List, [], ◌∷◌, ◌++◌, Option, IfSome}
 use Rattle.std.proofs.lemmas.List.Elements.{All-push}
-use Rattle.std.specs.declared.snapshot.Snapshot.{Snapshot}
-use Rattle.sessions.specs.Sessions.{Giving}
-use Rattle.serving.specs.Working.{AreServed, HasServed}
+use Rattle.serving.specs.Working.{AreServed}
 
-module _ {A : Type 0} (begins : A → Type 0) (store : ℕ) (gives : Giving A) where
-  pub one_more : (served : List (Snapshot A × A)) (first : Snapshot A) (last : A) → AreServed begins store gives served → begins first.value → HasServed store gives first.value last
-      → AreServed begins store gives (served ++ (first, last) ∷ [])
-  one_more served first last before begun asked =
-      All-push (λ (pair : Snapshot A × A). begins pair.0.value × HasServed store gives pair.0.value pair.1) served (first, last) before (begun, asked)
+module _ {S : Type 0} (is_served : S → Type 0) where
+  pub one_more : (turns : List (Option S × Unit {0})) (last : Option S) → AreServed is_served turns → IfSome last is_served → AreServed is_served (turns ++ (last, tt) ∷ [])
+  one_more turns last before one = All-push (λ (turn : Option S × Unit {0}). IfSome turn.0 is_served) turns (last, tt) before one

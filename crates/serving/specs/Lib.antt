@@ -1,4 +1,5 @@
 pub mod Ending
+pub mod Eviction
 pub mod Protocols
-pub mod Slowness
+pub mod Turns
 pub mod Working

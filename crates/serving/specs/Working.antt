@@ -1,12 +1,17 @@
--- What a worker's sessions are asked.
-use Rattle.std.specs.Prelude.{ℕ, List, All}
-use Rattle.std.specs.declared.snapshot.Snapshot.{Snapshot}
-use Rattle.sessions.specs.Sessions.{Giving, Session}
+-- What a worker's sessions are.
+use Rattle.std.specs.Prelude.{◌≡◌, [], ◌∷◌, ℕ, List, All, IfSome, Option}
+use Rattle.sessions.specs.Machines.{IsSession}
+use Rattle.sessions.specs.Sessions.{Giving}
+use Rattle.sessions.specs.declared.machine.Phase.{Phase}
 
--- nothing was asked but the requests of some lines, each once and in order
-abbrev pub HasServed : {A : Type 0} → ℕ → Giving A → A → A → Type 0
-HasServed store gives a b = (lines : List (List ℕ)) × (text : List ℕ) × Session store gives a lines text b
+-- a session for this store, which began as one may
+abbrev pub HasBegun : {A : Type 0} → (A → Type 0) → ℕ → ℕ → List (A × Unit {0}) → Type 0
+HasBegun {A} begins store own first = (own ≡ store) × ∥ ((start : A) × (first ≡ (start, tt) ∷ []) × begins start) ∥₁
 
--- each session, as it began and as it ended, began as one may, and was asked just that
-abbrev pub AreServed : {A : Type 0} → (A → Type 0) → ℕ → Giving A → List (Snapshot A × A) → Type 0
-AreServed {A} begins store gives served = All (λ (pair : Snapshot A × A). begins pair.0.value × HasServed store gives pair.0.value pair.1) served
+-- it began as this, and what it was written over all its turns is a beginning of the session of what was read from it
+abbrev pub IsServed : {A : Type 0} → Giving A → ℕ → List (A × Unit {0}) → List ℕ → List ℕ → List ℕ → Phase → A → Type 0
+IsServed {A} gives store first read written waiting phase now = ∥ ((start : A) × (first ≡ (start, tt) ∷ []) × IsSession store gives start read written waiting phase now) ∥₁
+
+-- each session, as it was after a turn; of a turn that was not made there may be none
+abbrev pub AreServed : {S : Type 0} → (S → Type 0) → List (Option S × Unit {0}) → Type 0
+AreServed {S} is_served turns = All (λ (turn : Option S × Unit {0}). IfSome turn.0 is_served) turns

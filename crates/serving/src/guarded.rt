@@ -9,5 +9,7 @@ pub struct Guarded<R> {
     pub first: Vec<u8>,
     /// How many of them are handed on.
     pub given: usize,
+    /// Whether it was found to begin as no other protocol.
+    pub is_own: bool,
     ghost within: { given ≤ vec_len first },
 }

@@ -15,12 +15,14 @@ const LONGEST: usize = 8;
 impl<R: Read> Guarded<R> {
     /// Nothing of the input was looked at so far.
     pub fn new(alloc: Global, input: R) -> Guarded<R>
-        ensures { left R.remaining result ≡ R.remaining input }
+        ensures left { left R.remaining result ≡ R.remaining input }
+        ensures own { result.is_own ≡ false }
     {
         Guarded {
             input,
             first: Vec::new(alloc),
             given: 0,
+            is_own: false,
         }
     }
 
@@ -28,6 +30,7 @@ impl<R: Read> Guarded<R> {
     /// the input, or there is no memory.
     pub fn begins_other(&mut self) -> io::Result<bool>
         ensures bytes { Keeps (left R.remaining self.old) (left R.remaining self.new) }
+        ensures same { self.new.is_own ≡ self.old.is_own }
         ensures other { IfOk result (λ is_other. is_other ≡ true → IfSome (left R.remaining self.old) BeginsOther) }
         ensures own { IfOk result (λ is_other. is_other ≡ false → IfSome (left R.remaining self.old) (λ bytes. BeginsOther bytes → ⊥)) }
     {
@@ -43,6 +46,11 @@ impl<R: Read> Guarded<R> {
         Err(ErrorKind::InvalidData.into())
     }
 
+    /// Whether something was looked at of what is left.
+    pub(crate) fn is_looked_at(&self) -> bool {
+        !self.held().is_empty()
+    }
+
     // What was looked at and is not handed on.
     fn held(&self) -> &[u8]
         ensures { result.now ≡ unread self.now }
@@ -53,6 +61,7 @@ impl<R: Read> Guarded<R> {
     // Reads a byte more. Whether there is one.
     fn read_more(&mut self) -> io::Result<bool>
         ensures bytes { Keeps (left R.remaining self.old) (left R.remaining self.new) }
+        ensures same { self.new.is_own ≡ self.old.is_own }
         ensures none { IfOk result (λ more. more ≡ false → (unread self.new ≡ unread self.old) × IsAtEnd (R.remaining self.new.input)) }
     {
         self.first.reserve(1)?;

@@ -1,47 +1,45 @@
-//! Serving: sessions over TCP, one connection a session, by as many threads as there are workers.
+//! Serving: sessions over TCP, one connection a session. One thread waits for all connections, and workers take turns with those that are ready.
 //!
-//! Keeps: what a connection is written is the session of what was read from it, or a beginning of it if the session broke off. Each connection that is put in
-//! the queue is taken once, also if the listener breaks.
-//! Never: takes a line of a connection that begins as HTTP or TLS, nor writes to it. Never, but while it ends for a fault: cuts a session that was neither idle
-//! for the ticks that it may be, nor slow over a line or its answers for half a minute; one that may be idle for ever is cut only for answers that are not taken,
-//! or while the server closes.
-//! Callers rely on: a worker serves one connection at a time, from its first line to its last, by a session that answers no other one.
+//! Keeps: what a connection is written, over all its turns, is the session of what was read from it, or a beginning of it. Each turn that is put in the queue is
+//! taken once, also if the listener breaks.
+//! Never: takes a line of a connection that begins as HTTP or TLS, nor writes to it. Never finds that a connection may make room for another one if it has got on
+//! within the seconds that it may be idle, and is not in the midst of a line or of answers that it has not taken for half a minute.
+//! Callers rely on: a session answers no other connection, and so many connections as were asked for are accepted before the server ends well.
 //!
-//! Only tested, over the program: that each connection that was taken is served, that sessions of several workers go on beside one another, what is reported, that it goes
-//! on short of descriptors, and that the server ends.
-//! No contract says that a call returns: threads wait for connections, and each for its caller.
+//! Only tested, over the program: that a connection that is ready gets its turn, and soon, that no wake is lost, how long a worker stays, which connection makes
+//! room and when, that no more are held and no more bytes wait than may, what is reported, that it goes on short of descriptors, and that the server ends.
+//! No contract says that a call returns: threads wait for connections, and for turns.
 //!
-//! Start at `serve_one`, a session over any reader and writer, and then `serve_on`.
+//! Start at `take_in` and `put_out`, a turn over any reader and writer, and then `serve_on`.
 #![tactic(auto)]
 
 mod accepting;
 mod begun;
+mod bells;
 mod crowd;
 mod ended;
+mod eviction;
 mod fork;
 mod gathering;
 mod guarded;
 mod guarding;
 mod hall;
-mod patience;
-mod patient;
-mod pressing;
+mod held;
+mod polling;
 mod protocols;
 mod report;
 mod serving;
-mod session;
 mod signs;
-mod slowness;
+mod slots;
+mod turns;
 mod working;
 
 pub use begun::Begun;
 pub use ended::Ended;
+pub use eviction::may_evict;
 pub use fork::Fork;
 pub use guarded::Guarded;
-pub use patience::Patience;
-pub use patient::Patient;
-pub use pressing::Pressing;
+pub use held::Held;
 pub use report::Report;
 pub use serving::{Serving, serve_on};
-pub use session::serve_one;
-pub use signs::Signs;
+pub use turns::{Wants, put_out, take_in};

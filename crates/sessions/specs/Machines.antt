@@ -1,5 +1,5 @@
 -- What a session holds between two calls, and what that is of its lines and their answers.
-use Rattle.std.specs.Prelude.{◌≡◌, ◌⊎◌, ℕ, Bool, true, false, List, [], ◌++◌, flat_map, take, All, Option, Some, None, Result}
+use Rattle.std.specs.Prelude.{◌≡◌, ◌⊎◌, ◌+◌, ℕ, Bool, true, false, List, [], ◌++◌, flat_map, length, take, vec_len, All, Option, Some, None, Result}
 use Rattle.refusal.specs.declared.refusal.Refusal.{Refusal}
 use Rattle.json_lines.specs.declared.answer.Answer.{Answer}
 use Rattle.line_io.specs.declared.held.Block.{Block}
@@ -20,6 +20,14 @@ use Rattle.sessions.specs.declared.machine.Turn.TheVariants as turn
 abbrev pub left_of : Option Block → List ℕ
 left_of None = []
 left_of (Some block) = unread block
+
+-- the bytes that it keeps: of the line that has begun, of its block, and of the answers that wait
+abbrev pub block_size : Option Block → ℕ
+block_size None = 0
+block_size (Some block) = vec_len block.bytes
+
+abbrev pub size_of : Machine → ℕ
+size_of m = length m.line.bytes.items + block_size m.block + vec_len m.waiting.bytes
 
 -- nothing came, and nothing waits
 abbrev pub IsNew : Machine → Type 0

@@ -1,12 +1,12 @@
 // Lines that come and answers that wait.
-ghost use Rattle.std.specs.Prelude.{◌≡◌, ◌<◌, ◌↔◌, ◌++◌, ◌⊎◌, [], List, ℕ, length, true, false, None, IfErr, IfOk, OnOk, OnErr, IsTrue};
+ghost use Rattle.std.specs.Prelude.{◌≡◌, ◌<◌, ◌↔◌, ◌-◌, ◌^◌, min, ◌++◌, ◌⊎◌, [], List, ℕ, length, true, false, None, IfErr, IfOk, OnOk, OnErr, IsTrue};
 ghost use Rattle.std.specs.Io.KnownBytes.{Keeps};
 ghost use Rattle.line_io.specs.Blocks.{Refills, TakesPart, unread};
 ghost use Rattle.line_io.specs.Lines.{Holds};
 ghost use Rattle.sessions.specs.Sessions.{IsCause, end_text};
 ghost use Rattle.sessions.specs.Bounds.{IsBounded};
 ghost use Rattle.sessions.specs.Unsent.{unsent};
-ghost use Rattle.sessions.specs.Machines.{AnswersLine, GoesOn, IsNew, left_of, phase_after};
+ghost use Rattle.sessions.specs.Machines.{AnswersLine, GoesOn, IsNew, left_of, phase_after, size_of};
 
 use crate::asking::Answers;
 use crate::reply::reply_to;
@@ -189,6 +189,19 @@ impl Machine {
             Some(block) => block.taken == block.filled,
             None => true,
         }
+    }
+
+    /// How many bytes it keeps.
+    pub(crate) fn size(&self) -> usize
+        ensures { result ≡ min (size_of self.now) (2 ^ 64 - 1) }
+    {
+        let block = match &self.block {
+            Some(block) => block.bytes.len(),
+            None => 0,
+        };
+        let line = self.line.as_bytes().len();
+        line.saturating_add(block)
+            .saturating_add(self.waiting.bytes.len())
     }
 
     /// Gives back the memory of the block if all of it is looked at, and of the answers if none waits.

@@ -1,10 +1,11 @@
 // A session between two turns.
-ghost use Rattle.std.specs.Prelude.{◌≡◌, ◌<◌, ◌≤◌, ◌++◌, ◌∷◌, ◌↔◌, [], List, ℕ, false, length, take, drop, Ok, IfErr, IfOk, OnOk, OnErr, IsTrue};
+ghost use Rattle.std.specs.Prelude.{◌≡◌, ◌<◌, ◌≤◌, ◌++◌, ◌∷◌, ◌↔◌, ◌-◌, ◌^◌, [], List, ℕ, false, min, length, take, drop, Ok, IfErr, IfOk, OnOk, OnErr, IsTrue};
 ghost use Rattle.std.specs.Io.KnownBytes.{Consumes, IsAtEnd, Keeps};
+ghost use Rattle.line_io.specs.Lines.{Holds};
 ghost use Rattle.sessions.specs.Unsent.{unsent};
 ghost use Rattle.sessions.specs.Bounds.{IsBounded};
 ghost use Rattle.sessions.specs.Sessions.{IsCause};
-ghost use Rattle.sessions.specs.Machines.{IsSession, Stands, all_read, all_written, left_of};
+ghost use Rattle.sessions.specs.Machines.{IsSession, Stands, all_read, all_written, left_of, size_of};
 
 use crate::asking::Answers;
 use crate::machine::{Machine, Phase, Turn};
@@ -136,6 +137,20 @@ impl<A: Answers> Session<A> {
         ensures { IsTrue result ↔ (self.now.machine.phase ≡ Phase.Ended) }
     {
         matches!(self.machine.phase, Phase::Ended)
+    }
+
+    /// Whether no line has begun that has not ended.
+    pub fn is_at_rest(&self) -> bool
+        ensures { (front : List ℕ) → Holds self.now.machine.line front → IsTrue result ↔ (front ≡ []) }
+    {
+        self.machine.line.is_empty()
+    }
+
+    /// How many bytes it keeps: of the line that has begun, of its block, and of the answers that wait.
+    pub fn size(&self) -> usize
+        ensures { result ≡ min (size_of self.now.machine) (2 ^ 64 - 1) }
+    {
+        self.machine.size()
     }
 }
 

@@ -2,7 +2,7 @@
 use Rattle.std.proofs.Common.{◌≡◌, ◌∙◌, ◌↔◌, List, Option, Some, Result, Ok, Err, IfOk, IsTrue, sym, refl, subst, codes, true}
 use Rattle.clap.specs.Faults.{is_simple_and_free}
 use Rattle.clap.specs.Walk.{Text}
-use Rattle.settings.specs.declared.limits.TheConstants.{MAX_AMOUNT, MAX_MIB, MAX_PLACE, MAX_SHARDS, MAX_STORE, MAX_WORKERS}
+use Rattle.settings.specs.declared.limits.TheConstants.{MAX_AMOUNT, MAX_HELD, MAX_MIB, MAX_PLACE, MAX_SHARDS, MAX_STORE, MAX_WORKERS}
 use Rattle.settings.specs.declared.serve.ServeSettings.{ServeSettings}
 use Rattle.settings.specs.declared.dump.DumpSettings.{DumpSettings}
 use Rattle.settings.specs.declared.reshard.ReshardSettings.{ReshardSettings}
@@ -26,6 +26,7 @@ to_serve words s a =
         window_mib = subst (λ (t : Option Text). Tells t 1 MAX_MIB s.window_mib) (told (codes "window-mib")) a.asked.window_mib;
         answer_mib = subst (λ (t : Option Text). Tells t 1 MAX_MIB s.answer_mib) (told (codes "answer-mib")) a.asked.answer_mib;
         connections = subst (λ (t : Option Text). Tells t 0 MAX_AMOUNT s.connections) (told (codes "connections")) a.asked.connections;
+        held = subst (λ (t : Option Text). Tells t 1 MAX_HELD s.held) (told (codes "held")) a.asked.held;
         idle = subst (λ (t : Option Text). Tells t 0 MAX_AMOUNT s.idle) (told (codes "idle")) a.asked.idle;
         existing = subst (λ (t : Option Text). IsTrue s.existing ↔ (t ≡ Some (codes "true"))) (told (codes "existing")) a.asked.existing;
         end_when_down = subst (λ (t : Option Text). IsTrue s.end_when_down ↔ (t ≡ Some (codes "true"))) (told (codes "end-when-down")) a.asked.end_when_down;

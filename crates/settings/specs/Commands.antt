@@ -3,7 +3,7 @@ use Rattle.std.specs.Prelude.{◌≡◌, ◌↔◌, ◌∷◌, [], List, Option,
 use Rattle.clap.specs.Walk.{Rule, Text}
 use Rattle.settings.specs.Options.{IsLineOf, MayTell, Tells, rule_taking, text_or, written}
 use Rattle.settings.specs.declared.parameter.Takes.TheVariants as takes
-use Rattle.settings.specs.declared.limits.TheConstants.{MAX_AMOUNT, MAX_MIB, MAX_PLACE, MAX_RETRY, MAX_SHARDS, MAX_STORE, MAX_WORKERS}
+use Rattle.settings.specs.declared.limits.TheConstants.{MAX_AMOUNT, MAX_HELD, MAX_MIB, MAX_PLACE, MAX_RETRY, MAX_SHARDS, MAX_STORE, MAX_WORKERS}
 use Rattle.settings.specs.declared.serve.ServeSettings.{ServeSettings}
 use Rattle.settings.specs.declared.dump.DumpSettings.{DumpSettings}
 use Rattle.settings.specs.declared.reshard.ReshardSettings.{ReshardSettings}
@@ -44,6 +44,7 @@ serve_options =
     ∷ by_default (codes "4096") (number_from 1 MAX_MIB (codes "window-mib"))
     ∷ by_default (codes "1024") (number_from 1 MAX_MIB (codes "answer-mib"))
     ∷ by_default (codes "0") (number_from 0 MAX_AMOUNT (codes "connections"))
+    ∷ by_default (codes "16384") (number_from 1 MAX_HELD (codes "held"))
     ∷ by_default (codes "10") (number_from 0 MAX_AMOUNT (codes "idle"))
     ∷ flag_named (codes "existing")
     ∷ flag_named (codes "end-when-down")
@@ -81,6 +82,7 @@ pub record ToServe (told : Text → Option Text → Option Text) (s : ServeSetti
   pub window_mib : Tells (told (codes "window-mib") (Some (codes "4096"))) 1 MAX_MIB s.window_mib
   pub answer_mib : Tells (told (codes "answer-mib") (Some (codes "1024"))) 1 MAX_MIB s.answer_mib
   pub connections : Tells (told (codes "connections") (Some (codes "0"))) 0 MAX_AMOUNT s.connections
+  pub held : Tells (told (codes "held") (Some (codes "16384"))) 1 MAX_HELD s.held
   pub idle : Tells (told (codes "idle") (Some (codes "10"))) 0 MAX_AMOUNT s.idle
   pub existing : IsTrue s.existing ↔ (told (codes "existing") (Some (codes "false")) ≡ Some (codes "true"))
   pub end_when_down : IsTrue s.end_when_down ↔ (told (codes "end-when-down") (Some (codes "false")) ≡ Some (codes "true"))

@@ -16,6 +16,9 @@ pub(crate) const MAX_SHARDS: u64 = 64;
 
 pub(crate) const MAX_WORKERS: u64 = 64;
 
+/// The most connections that a server holds.
+pub(crate) const MAX_HELD: u64 = 65_536;
+
 /// The most times that a request is sent again.
 pub(crate) const MAX_RETRY: u64 = 1000;
 

@@ -2,12 +2,12 @@
 ghost use Rattle.std.specs.Prelude.{◌≡◌, ◌≤◌, ◌⊎◌, ◌↔◌, IfErr, IfOk, IfSome, IsTrue, Some, codes, map};
 ghost use Rattle.std.specs.Prelude.{option_map, slice_get, string_bytes};
 ghost use Rattle.settings.specs.CommandLine.{IsFor};
-ghost use Rattle.settings.specs.declared.limits.TheConstants.{MAX_AMOUNT, MAX_MIB, MAX_SHARDS, MAX_STORE, MAX_WORKERS};
+ghost use Rattle.settings.specs.declared.limits.TheConstants.{MAX_AMOUNT, MAX_HELD, MAX_MIB, MAX_SHARDS, MAX_STORE, MAX_WORKERS};
 ghost use Rattle.settings.specs.Options.{Tells};
 ghost use Rattle.clap.specs.Words.{first_value, found_of};
 
 use crate::given::{StoreGiven, is_given, number_in, store_in};
-use crate::limits::{MAX_AMOUNT, MAX_MIB, MAX_WORKERS, USAGE};
+use crate::limits::{MAX_AMOUNT, MAX_HELD, MAX_MIB, MAX_WORKERS, USAGE};
 use crate::parameter::{DIR, Manual, Otherwise, Parameter, SHARDS, STORE, Takes, program};
 use crate::reading::{Asked, are_for, read};
 use clap::{ArgMatches, Command, Error};
@@ -52,7 +52,7 @@ const PARAMETERS: &[Parameter] = &[
     Parameter {
         name: "workers",
         value_name: "N",
-        help: "The number of threads, from 1 to 64; each serves one connection at a time",
+        help: "The number of threads that answer, from 1 to 64; at least 2 answer few clients faster",
         takes: Takes::Number(1, MAX_WORKERS),
         otherwise: Otherwise::Refused,
     },
@@ -85,9 +85,16 @@ const PARAMETERS: &[Parameter] = &[
         otherwise: Otherwise::Default("0"),
     },
     Parameter {
+        name: "held",
+        value_name: "N",
+        help: "How many connections are held at once, from 1 to 65536, or fewer if descriptors are few",
+        takes: Takes::Number(1, MAX_HELD),
+        otherwise: Otherwise::Default("16384"),
+    },
+    Parameter {
         name: "idle",
         value_name: "N",
-        help: "How many seconds an idle session keeps its worker while others wait; 0 is for ever",
+        help: "After how many seconds an idle session is closed if another needs its place; 0 is never",
         takes: Takes::Number(0, MAX_AMOUNT),
         otherwise: Otherwise::Default("10"),
     },
@@ -128,7 +135,9 @@ pub struct ServeSettings {
     pub answer_mib: u64,
     /// The server ends after so many connections; 0 is never.
     pub connections: u64,
-    /// The seconds that an idle session keeps its worker while others wait; 0 is for ever.
+    /// How many connections are held at once, from 1 to 65,536.
+    pub held: u64,
+    /// The seconds after which an idle session is closed if another connection needs its place; 0 is never.
     pub idle: u64,
     /// Whether only a store that exists is served, and none is made.
     pub existing: bool,
@@ -141,6 +150,7 @@ pub struct ServeSettings {
     ghost window_affordable: { (1 ≤ window_mib) × (window_mib ≤ MAX_MIB) },
     ghost answers_affordable: { (1 ≤ answer_mib) × (answer_mib ≤ MAX_MIB) },
     ghost counted: { connections ≤ MAX_AMOUNT },
+    ghost holding: { (1 ≤ held) × (held ≤ MAX_HELD) },
     ghost waited: { idle ≤ MAX_AMOUNT },
 }
 
@@ -206,6 +216,7 @@ struct Numbers {
     window_mib: u64,
     answer_mib: u64,
     connections: u64,
+    held: u64,
     idle: u64,
     ghost staffed: { 1 ≤ workers },
     ghost affordable: { workers ≤ MAX_WORKERS },
@@ -213,6 +224,7 @@ struct Numbers {
     ghost window_affordable: { (1 ≤ window_mib) × (window_mib ≤ MAX_MIB) },
     ghost answers_affordable: { (1 ≤ answer_mib) × (answer_mib ≤ MAX_MIB) },
     ghost counted: { connections ≤ MAX_AMOUNT },
+    ghost holding: { (1 ≤ held) × (held ≤ MAX_HELD) },
     ghost waited: { idle ≤ MAX_AMOUNT },
 }
 
@@ -224,6 +236,7 @@ fn numbers_of(serve: &ArgMatches) -> Option<Numbers>
     ensures window_mib { IfSome result (λ n. Tells (first_value (found_of serve.now) (codes "window-mib")) 1 MAX_MIB n.window_mib) }
     ensures answer_mib { IfSome result (λ n. Tells (first_value (found_of serve.now) (codes "answer-mib")) 1 MAX_MIB n.answer_mib) }
     ensures connections { IfSome result (λ n. Tells (first_value (found_of serve.now) (codes "connections")) 0 MAX_AMOUNT n.connections) }
+    ensures held { IfSome result (λ n. Tells (first_value (found_of serve.now) (codes "held")) 1 MAX_HELD n.held) }
     ensures idle { IfSome result (λ n. Tells (first_value (found_of serve.now) (codes "idle")) 0 MAX_AMOUNT n.idle) }
 {
     let given = store_in(serve)?;
@@ -232,6 +245,7 @@ fn numbers_of(serve: &ArgMatches) -> Option<Numbers>
     let window_mib = number_in(serve, "window-mib", 1, MAX_MIB)?;
     let answer_mib = number_in(serve, "answer-mib", 1, MAX_MIB)?;
     let connections = number_in(serve, "connections", 0, MAX_AMOUNT)?;
+    let held = number_in(serve, "held", 1, MAX_HELD)?;
     let idle = number_in(serve, "idle", 0, MAX_AMOUNT)?;
     Some(Numbers {
         given,
@@ -240,6 +254,7 @@ fn numbers_of(serve: &ArgMatches) -> Option<Numbers>
         window_mib,
         answer_mib,
         connections,
+        held,
         idle,
     })
 }
@@ -271,7 +286,7 @@ fn settings_at(
 ) -> Result<ServeSettings, AllocError>
     ensures texts { IfOk result (λ s. (string_bytes s.dir ≡ dir.now) × (string_bytes s.listen ≡ listen.now)) }
     ensures store { IfOk result (λ s. (s.store ≡ numbers.given.store) × (s.shards ≡ numbers.given.shards)) }
-    ensures numbers { IfOk result (λ s. (s.workers ≡ numbers.workers) × (s.window ≡ numbers.window) × (s.window_mib ≡ numbers.window_mib) × (s.answer_mib ≡ numbers.answer_mib) × (s.connections ≡ numbers.connections) × (s.idle ≡ numbers.idle)) }
+    ensures numbers { IfOk result (λ s. (s.workers ≡ numbers.workers) × (s.window ≡ numbers.window) × (s.window_mib ≡ numbers.window_mib) × (s.answer_mib ≡ numbers.answer_mib) × (s.connections ≡ numbers.connections) × (s.held ≡ numbers.held) × (s.idle ≡ numbers.idle)) }
     ensures wishes { IfOk result (λ s. (s.existing ≡ wishes.existing) × (s.end_when_down ≡ wishes.end_when_down)) }
 {
     let StoreGiven { store, shards } = numbers.given;
@@ -287,6 +302,7 @@ fn settings_at(
             window_mib: numbers.window_mib,
             answer_mib: numbers.answer_mib,
             connections: numbers.connections,
+            held: numbers.held,
             idle: numbers.idle,
             existing: wishes.existing,
             end_when_down: wishes.end_when_down,

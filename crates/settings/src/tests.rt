@@ -14,9 +14,9 @@ enum Reader {
 // Lines, and after each the settings that it asks for, or the status to end with: 2 for one without an option that has to be there, with a number out of its range, or with
 // what there is not; 0 for help. They are texts, since a list of as many rows takes long to be proved wherever it is read.
 const SERVE: &str =
-    r#"zanstore serve --dir data --store=7 --shards 2 --listen 127.0.0.1:7700 --workers=4 => Ok(ServeSettings { dir: "data", store: 7, shards: Shards { count: 2 }, listen: "127.0.0.1:7700", workers: 4, window: 1000000, window_mib: 4096, answer_mib: 1024, connections: 0, idle: 10, existing: false, end_when_down: false })
-zanstore serve --idle 4294967295 --connections=4294967295 --window 0 --window-mib=1 --answer-mib 1048576 --workers 64 --listen a --shards 64 --store 4294967295 --dir b => Ok(ServeSettings { dir: "b", store: 4294967295, shards: Shards { count: 64 }, listen: "a", workers: 64, window: 0, window_mib: 1, answer_mib: 1048576, connections: 4294967295, idle: 4294967295, existing: false, end_when_down: false })
-zanstore serve --existing --dir d --store 1 --shards 2 --listen a --workers 4 --end-when-down => Ok(ServeSettings { dir: "d", store: 1, shards: Shards { count: 2 }, listen: "a", workers: 4, window: 1000000, window_mib: 4096, answer_mib: 1024, connections: 0, idle: 10, existing: true, end_when_down: true })
+    r#"zanstore serve --dir data --store=7 --shards 2 --listen 127.0.0.1:7700 --workers=4 => Ok(ServeSettings { dir: "data", store: 7, shards: Shards { count: 2 }, listen: "127.0.0.1:7700", workers: 4, window: 1000000, window_mib: 4096, answer_mib: 1024, connections: 0, held: 16384, idle: 10, existing: false, end_when_down: false })
+zanstore serve --idle 4294967295 --connections=4294967295 --held 65536 --window 0 --window-mib=1 --answer-mib 1048576 --workers 64 --listen a --shards 64 --store 4294967295 --dir b => Ok(ServeSettings { dir: "b", store: 4294967295, shards: Shards { count: 64 }, listen: "a", workers: 64, window: 0, window_mib: 1, answer_mib: 1048576, connections: 4294967295, held: 65536, idle: 4294967295, existing: false, end_when_down: false })
+zanstore serve --existing --dir d --store 1 --shards 2 --listen a --workers 4 --end-when-down => Ok(ServeSettings { dir: "d", store: 1, shards: Shards { count: 2 }, listen: "a", workers: 4, window: 1000000, window_mib: 4096, answer_mib: 1024, connections: 0, held: 16384, idle: 10, existing: true, end_when_down: true })
 zanstore => Err(2)
 zanstore serve --store 1 --shards 2 --listen a --workers 4 => Err(2)
 zanstore serve --dir d --shards 2 --listen a --workers 4 => Err(2)
@@ -32,6 +32,8 @@ zanstore serve --dir d --store 1 --shards 2 --listen a --workers 4 --window 4294
 zanstore serve --dir d --store 1 --shards 2 --listen a --workers 4 --window-mib 0 => Err(2)
 zanstore serve --dir d --store 1 --shards 2 --listen a --workers 4 --answer-mib 1048577 => Err(2)
 zanstore serve --dir d --store 1 --shards 2 --listen a --workers 4 --connections 4294967296 => Err(2)
+zanstore serve --dir d --store 1 --shards 2 --listen a --workers 4 --held 0 => Err(2)
+zanstore serve --dir d --store 1 --shards 2 --listen a --workers 4 --held 65537 => Err(2)
 zanstore serve --dir d --store 1 --shards 2 --listen a --workers 4 --idle 4294967296 => Err(2)
 zanstore serve --dir d --store 1 --shards two --listen a --workers 4 => Err(2)
 zanstore serve --dir d --store 1 --shards 2 --listen a --workers 4 --port 1 => Err(2)

@@ -5,8 +5,8 @@ use Rattle.serving.proofs.serving.fn.run.scope.Given as goal
 
 abbrev pub invariant-loop-worker : goal.invariant-loop-worker
 invariant-loop-worker g l = record {
-  workers : All (λ worker. worker.hall.now.queue ≡ l.acceptor.hall.now.queue) (into_iter_items l.worker-iterator);
-  count : vec_len l.threads + into_iter_len l.worker-iterator + 1 ≡ l.acceptor.pass.passes;
+  workers : All (λ worker. worker.hall.now.queue ≡ l.poller.hall.now.queue) (into_iter_items l.worker-iterator);
+  count : vec_len l.threads + into_iter_len l.worker-iterator + 1 ≡ l.poller.pass.passes;
   room : vec_len l.threads + into_iter_len l.worker-iterator ≤ vec_capacity l.threads;
-  threads : All (λ thread. thread.promise.0.value ≡ l.acceptor.hall.now.queue) l.threads.items;
+  threads : All (λ thread. thread.promise.0.value ≡ l.poller.hall.now.queue) l.threads.items;
 }
