@@ -1,5 +1,5 @@
 -- A checkpoint of what the memory has: it is that of what the coordinator knows, and the memory is what it stands for.
-use Rattle.std.proofs.Common.{◌≡◌, ◌≤◌, ◌+◌, ◌-◌, ◌++◌, ◌∷◌, [], ℕ, List, Option, None, drop, length, length-drop, false, refl, sym, ◌∙◌, ap, subst, arith}
+use Rattle.std.proofs.Common.{◌≡◌, ◌≤◌, ◌+◌, ◌-◌, ◌^◌, ◌++◌, ◌∷◌, [], ℕ, List, Option, None, drop, length, length-drop, min, false, refl, sym, ◌∙◌, ap, subst, arith}
 use Rattle.std.proofs.lemmas.List.{append-nil, drop-drop}
 use Rattle.tuples.specs.declared.entry.Entry.{Entry}
 use Rattle.tuples.specs.declared.entry.WriteId.{WriteId}
@@ -14,11 +14,12 @@ use Rattle.recovery.specs.Checkpoints.{above_horizon}
 use Rattle.recovery.proofs.Checkpoints.{checkpoint_state}
 use Rattle.device.specs.Device.{State}
 use Rattle.journal.specs.Ahead.{HasOldOrNewOr, checkpoint_of}
+use Rattle.journal.specs.Measures.{bytes_of}
 use Rattle.journal.specs.Records.{HasRecords, LeavesEach, View}
 use Rattle.ledger.specs.Ledgers.{LedgerValue}
 use Rattle.decisions.specs.Checkpoints.{HasOldNewOrPoint, carried_checkpoint, coordinator_of, next_checkpoint}
 use Rattle.decisions.specs.Coordinators.{CoordinatorView, IsRunning, memory_of}
-use Rattle.coordinator.specs.Checkpoints.{told_by}
+use Rattle.coordinator.specs.Checkpoints.{HasLen, told_by}
 use Rattle.coordinator.specs.Keeping.{IsKept, Remembers, risen}
 use Rattle.coordinator.proofs.Kept.{remembers_flushed}
 
@@ -145,6 +146,12 @@ module _ {D : Type 0} (state : D → State) (honest : D → Type 0) (j k : View 
         (λ run.
         let new = written run.honest_a run.honest_b in
         (record { honest_a = on_a run.honest_a; honest_b = on_b run.honest_b; up = now_up; rest = new.1 }, new.0 ∙ point_here run))
+
+    -- how long it is
+    pub point_len : (v : CoordinatorView D) → seen j ≡ v → IsRunning state honest v → (n : ℕ) → n ≡ min (2 ^ 64 - 1) (bytes_of (told_by me epoch h l)) → HasLen (next_checkpoint v) n
+    point_len v is run n len =
+        let here = subst (λ (w : CoordinatorView D). IsRunning state honest w → checkpoint_of (generation_of j.durable + 1) (told_by me epoch h l) ≡ next_checkpoint w) is point_here run in
+        record { generation = generation_of j.durable + 1; told = told_by me epoch h l; is = sym here; len = len }
 
 -- What it tells to the coordinator of another number of shards
 abbrev pub as_seen : {D : Type 0} → View D → Identity → List WriteId → ℕ → CoordinatorView D

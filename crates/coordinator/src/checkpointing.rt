@@ -1,5 +1,5 @@
 // A checkpoint of a coordinator, in place of all its records.
-ghost use Rattle.std.specs.Prelude.{◌≡◌, ◌⊎◌, ◌↔◌, ◌≤◌, ◌<◌, ◌+◌, [], Err, OnErr, OnOk, IfErr, IsErrOf, true, false, length};
+ghost use Rattle.std.specs.Prelude.{◌≡◌, ◌⊎◌, ◌↔◌, ◌≤◌, ◌<◌, ◌+◌, [], Err, OnErr, OnOk, IfErr, IfOk, IsErrOf, true, false, length};
 ghost use Rattle.journal.specs.Ahead.{HasOldOrNewOr, HasPointCause, StaysOrGains, checkpoint_of};
 ghost use Rattle.journal.specs.Records.{HasRecords, LeavesEach};
 ghost use Rattle.records.specs.Checkpoints.{generation_of};
@@ -7,7 +7,7 @@ ghost use Rattle.records.specs.Format.{AreRecords};
 ghost use Rattle.records.specs.Replays.{greatest_number};
 ghost use Rattle.decisions.specs.Checkpoints.{HasOldNewOrPoint, next_checkpoint};
 ghost use Rattle.decisions.specs.Coordinators.{IsRunning, KeepsOpen, coordinator_journal};
-ghost use Rattle.coordinator.specs.Checkpoints.{heads_of, told_by};
+ghost use Rattle.coordinator.specs.Checkpoints.{HasLen, heads_of, told_by};
 ghost use Rattle.coordinator.specs.Keeping.{risen as risen_horizon};
 
 use crate::Coordinator;
@@ -77,7 +77,9 @@ fn write<D: Device>(
 
 impl<D: Device> Coordinator<D> {
     /// How many bytes a checkpoint of what the coordinator knows has, but for the few around its records. It takes the memory of one batch.
-    pub fn checkpoint_len(&self, alloc: Global) -> Result<u64, AllocError> {
+    pub fn checkpoint_len(&self, alloc: Global) -> Result<u64, AllocError>
+        ensures { IsRunning D.state D.honest self.now → IfOk result (HasLen (next_checkpoint self.now)) }
+    {
         let horizon = risen(self.horizon, self.rising);
         let heads = heads(self.me, self.epoch, horizon);
         let mut known = Known::new(&heads, &self.ledger, horizon);
