@@ -110,30 +110,23 @@ def test_another(folder, asks):
     assert dumped(folder, 2) == at(1, A)
 
 
-def test_mixed(folder, asks):
-    """a folder without the coordinator's file has shards that know more than was kept"""
-    script(folder, 2, f"write +{A} +{B}", "learn 0", "learn 1", "flush 0", "flush 1")
-    empty(folder, "c.a", "c.b")
-    assert asks(folder, 2) == fault("16 Damaged", apart(0))
-    os.remove(os.path.join(folder, "c.a"))
-    assert asks(folder, 2) == fault("16 Damaged", f"{folder}/c.a: is missing")
+# Files that are not of one moment: what was done, whose files are emptied, which shard is told, and one that is missing then.
+APART = {
+    "shards know more than the coordinator kept": ([f"write +{A} +{B}", "learn 0", "learn 1", "flush 0", "flush 1"], "c", 0, "c.a"),
+    "a shard has learned a place without a version of it": ([f"write +{A}", "learn 0", "flush 0"], "c", 0, "c.b"),
+    "a shard would have to learn what the coordinator has forgotten": ([f"write +{A} +{B}", "raise 1"], "1", 1, "1.b"),
+}
 
 
-def test_ahead(folder, asks):
-    """a folder without the coordinator's file has a shard that has learned a place without a version of it"""
-    script(folder, 2, f"write +{A}", "learn 0", "flush 0")
-    empty(folder, "c.a", "c.b")
-    assert asks(folder, 2) == fault("16 Damaged", apart(0))
-
-
-def test_behind(folder, asks):
-    """a folder without a shard's files, which would have to learn what the coordinator has forgotten"""
-    script(folder, 2, f"write +{A} +{B}", "raise 1")
-    empty(folder, "1.a", "1.b")
-    assert asks(folder, 2) == fault("16 Damaged", apart(1))
-    os.remove(os.path.join(folder, "1.b"))
-    assert asks(folder, 2) == fault("16 Damaged", f"{folder}/1.b: is missing")
-    assert not os.path.exists(os.path.join(folder, "1.b"))
+@pytest.mark.parametrize("lines, node, shard, missing", APART.values(), ids=APART)
+def test_apart(lines, node, shard, missing, folder, asks):
+    """a folder without the coordinator's files, or without a shard's"""
+    script(folder, 2, *lines)
+    empty(folder, f"{node}.a", f"{node}.b")
+    assert asks(folder, 2) == fault("16 Damaged", apart(shard))
+    os.remove(os.path.join(folder, missing))
+    assert asks(folder, 2) == fault("16 Damaged", f"{folder}/{missing}: is missing")
+    assert not os.path.exists(os.path.join(folder, missing))
 
 
 def test_changed(folder, asks):

@@ -168,7 +168,8 @@ def is_in_order(run):
     for caller in run.callers:
         last = -1
         for call in caller.calls:
-            must(last < call.begin < call.end, f"caller {caller.number}, {line_of(call)}: not behind tick {last}")
+            if not last < call.begin < call.end:
+                raise Wrong(f"caller {caller.number}, {line_of(call)}: not behind tick {last}")
             last = call.end
     last = max(call.end for caller in run.callers[:-1] for call in caller.calls)
     must(last < run.callers[-1].calls[0].begin, f"the last part begins before tick {last}")

@@ -72,10 +72,12 @@ class CallReader:
         raise Refused(1)
 
 
-def read_call(reader, line):
+@lru_cache(None)
+def read_call(shards, line):
+    """A call of a store of so many shards. A run that is spoiled has most of the lines that it had."""
     words = line.split(" ")
     need(len(words) > 2)
-    call = Call(read_number(words[0]), read_number(words[1]), *reader.told(words[2:]))
+    call = Call(read_number(words[0]), read_number(words[1]), *CallReader(shards).told(words[2:]))
     need(call_text(call) == line)
     return call
 
@@ -89,7 +91,7 @@ def read_head(line):
 def read_run(lines):
     """The run of these lines, or raises `Wrong` at the first that is none of a run."""
     seed, shards = read_head(lines[0] if lines else "")
-    reader, callers = CallReader(shards), []
+    callers = []
     for number, line in enumerate(lines[1:], 2):
         head = re.fullmatch(r"caller (0|[1-9]\d*) (\w+)", line)
         if head:
@@ -98,7 +100,7 @@ def read_run(lines):
             continue
         must(callers, f"line {number}: of no caller: {line[:200]!r}")
         try:
-            callers[-1].calls.append(read_call(reader, line))
+            callers[-1].calls.append(read_call(shards, line))
         except Refused as refused:
             raise Wrong(f"line {number}: no line of a run: {line[:200]!r}") from refused
     return Run(seed, shards, callers)
