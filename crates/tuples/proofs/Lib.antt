@@ -18,5 +18,5 @@ pub mod Examples
 mod Members
 pub mod Walked
 pub mod Reaching
-pub mod Packed
+pub mod InOrder
 pub mod Unpacked

@@ -1,22 +1,18 @@
 -- The order of tuples is strict and total, and ties only a tuple with itself.
 use Rattle.std.proofs.Common.{◌≡◌, ◌⊎◌, ℕ, true, false, List, refl, sym, ap, ◌∙◌, inl, inr, rules, [], ◌∷◌}
-use Rattle.std.specs.Cmp.{IsTotalOrder}
 use Rattle.std.specs.Ordering.{ordering_reverse, is_eq, is_lt}
 use Rattle.std.specs.declared.cmp.Ordering.{Ordering}
 use Rattle.std.specs.declared.cmp.Ordering.TheVariants.{Less, Equal, Greater}
-use Rattle.std.proofs.lemmas.Cmp.{tied_itself, on_total, then_total, nat_list_cmp_total}
+use Rattle.std.proofs.lemmas.Cmp.{tied_itself, nat_list_cmp_total}
 use Rattle.tuples.specs.declared.object.Object.{Object}
 use Rattle.tuples.specs.declared.user.User.{User}
 use Rattle.tuples.specs.declared.tuple.Tuple.{Tuple}
 use Rattle.tuples.specs.Order.{name_cmp, object_cmp, user_cmp, tuple_cmp, tuple_eq, tuple_lt}
 use Rattle.tuples.specs.contracts.tuple.TupleOrd.TheImpl.{ghosts}
-pub use Rattle.tuples.specs.ByUser.{object_total, userset_total, user_total}
+pub use Rattle.tuples.specs.ByUser.{object_total, userset_total, user_total, tuple_total}
 use Rattle.tuples.specs.Reads.{AreAscending}
 use Rattle.tuples.proofs.Same.{tuple_same}
 use Rattle.tuples.proofs.Options.{same_tests}
-
-pub tuple_total : IsTotalOrder tuple_cmp
-tuple_total = then_total (on_total (λ (t : Tuple). t.object) object_total) (then_total (on_total (λ (t : Tuple). t.relation) nat_list_cmp_total) (on_total (λ (t : Tuple). t.user) user_total))
 
 -- the order that the type derives is that of tuples
 pub same_order : (a b : Tuple) → ghosts.cmp a b ≡ tuple_cmp a b

@@ -4,13 +4,13 @@ use Rattle.std.specs.Cmp.{IsTotalOrder}
 use Rattle.std.proofs.lemmas.Cmp.{nat_list_cmp_total, on_total, then_total}
 use Rattle.std.specs.Ordering.{ordering_reverse, ordering_then}
 use Rattle.std.specs.declared.cmp.Ordering.{Ordering}
-use Rattle.std.specs.declared.cmp.Ordering.TheVariants.{Less, Equal, Greater}
+use Rattle.std.specs.declared.cmp.Ordering.TheVariants.{Less, Equal}
 use Rattle.tuples.specs.declared.object.Object.{Object}
 use Rattle.tuples.specs.declared.object.Userset.{Userset}
 use Rattle.tuples.specs.declared.user.User.{User}
 use Rattle.tuples.specs.declared.user.User.TheVariants.{Id, Set}
 use Rattle.tuples.specs.declared.tuple.Tuple.{Tuple}
-use Rattle.tuples.specs.Order.{name_cmp, object_cmp, user_cmp, userset_cmp}
+use Rattle.tuples.specs.Order.{name_cmp, object_cmp, tuple_cmp, user_cmp, userset_cmp}
 
 abbrev pub by_user_cmp : Tuple → Tuple → Ordering
 by_user_cmp a b = ordering_then (name_cmp a.object.namespace b.object.namespace) (ordering_then (user_cmp a.user b.user) (ordering_then (name_cmp a.object.id b.object.id) (name_cmp a.relation b.relation)))
@@ -48,6 +48,9 @@ user_congr (Set a) (Set b) (Set d) h = userset_total.congr a b d h
 
 pub user_total : IsTotalOrder user_cmp
 user_total = record { antisymm = user_antisymm; trans = user_trans; congr = user_congr }
+
+pub tuple_total : IsTotalOrder tuple_cmp
+tuple_total = then_total (on_total (λ (t : Tuple). t.object) object_total) (then_total (on_total (λ (t : Tuple). t.relation) nat_list_cmp_total) (on_total (λ (t : Tuple). t.user) user_total))
 
 pub by_user_total : IsTotalOrder by_user_cmp
 by_user_total = then_total (on_total (λ (t : Tuple). t.object.namespace) nat_list_cmp_total) (then_total (on_total (λ (t : Tuple). t.user) user_total) (then_total (on_total (λ (t : Tuple). t.object.id) nat_list_cmp_total) (on_total (λ (t : Tuple). t.relation) nat_list_cmp_total)))

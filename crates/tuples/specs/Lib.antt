@@ -17,3 +17,4 @@ pub mod Checking
 pub mod Walking
 pub mod ByUser
 pub mod Packing
+pub mod Named

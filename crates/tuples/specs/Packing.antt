@@ -20,9 +20,13 @@ abbrev pub user_packing : User → List ℕ
 user_packing (Id i) = 1 ∷ i
 user_packing (Set s) = 2 ∷ userset_packing s
 
--- the namespace, the user, 0 id 0 relation
+-- namespace 0 id 0 relation, and the user
 abbrev pub packing : Tuple → List ℕ
-packing t = t.object.namespace ++ (user_packing t.user ++ 0 ∷ (t.object.id ++ 0 ∷ t.relation))
+packing t = t.object.namespace ++ 0 ∷ (t.object.id ++ 0 ∷ (t.relation ++ user_packing t.user))
+
+-- the namespace, the user, 0 id 0 relation
+abbrev pub packing_by_user : Tuple → List ℕ
+packing_by_user t = t.object.namespace ++ (user_packing t.user ++ 0 ∷ (t.object.id ++ 0 ∷ t.relation))
 
 abbrev pub is_mark : ℕ → Bool
 is_mark b = nat_le b 2
@@ -55,6 +59,14 @@ behind_user is_set text = if is_set then behind (behind (behind text)) else behi
 -- the tuple that a packing stands for
 abbrev pub unpacked : List ℕ → Tuple
 unpacked text = record {
+  object = record { namespace = front text; id = front (behind text) };
+  relation = front (behind (behind text));
+  user = unpacked_user (is_of_set (behind (behind text))) (behind (behind (behind text)));
+}
+
+-- the tuple that a packing by user stands for
+abbrev pub unpacked_by_user : List ℕ → Tuple
+unpacked_by_user text = record {
   object = record { namespace = front text; id = front (behind_user (is_of_set text) (behind text)) };
   relation = behind (behind_user (is_of_set text) (behind text));
   user = unpacked_user (is_of_set text) (behind text);
@@ -64,3 +76,8 @@ unpacked text = record {
 pub record IsPacking (text : List ℕ) : Type 0 where
   pub spelled : IsTuple (unpacked text)
   pub same : text ≡ packing (unpacked text)
+
+-- the text is the packing of a tuple by user
+pub record IsPackingByUser (text : List ℕ) : Type 0 where
+  pub spelled : IsTuple (unpacked_by_user text)
+  pub same : text ≡ packing_by_user (unpacked_by_user text)

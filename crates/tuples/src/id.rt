@@ -1,5 +1,5 @@
 // The id of an object or of a user.
-ghost use Rattle.std.specs.Prelude.{◌≡◌, ◌<◌, length, IsErrOf};
+ghost use Rattle.std.specs.Prelude.{◌≡◌, ◌<◌, length, IfOk, IsErrOf};
 ghost use Rattle.tuples.specs.Names.{IsId};
 ghost use Rattle.tuples.specs.Parsing.{Parses, own_text};
 ghost use Rattle.tuples.specs.Short.{max_short};
@@ -7,7 +7,7 @@ ghost use Rattle.tuples.specs.Short.{max_short};
 use crate::Refusal;
 use crate::grammar::is_id;
 use crate::name::Name;
-use std::alloc::Global;
+use std::alloc::{AllocError, Global};
 use std::marker::Model;
 
 /// The id of an object or of a user: 1 to 128 printable ASCII bytes other than `#`, `+`, `:` and `@`.
@@ -38,6 +38,16 @@ impl Id {
         if !is_id(bytes) {
             return Err(Refusal::BadTuple);
         }
+        Ok(Self {
+            name: Name::from_slice(alloc, bytes)?,
+        })
+    }
+
+    // An id of these bytes, which are one. A short one takes no memory.
+    pub(crate) fn of(alloc: Global, bytes: &[u8]) -> Result<Self, AllocError>
+        requires { IsId bytes.now }
+        ensures { IfOk result (λ a. a ≡ bytes.now) }
+    {
         Ok(Self {
             name: Name::from_slice(alloc, bytes)?,
         })

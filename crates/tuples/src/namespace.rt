@@ -1,5 +1,5 @@
 // The name of a namespace.
-ghost use Rattle.std.specs.Prelude.{◌≡◌, ◌<◌, length, IsErrOf};
+ghost use Rattle.std.specs.Prelude.{◌≡◌, ◌<◌, length, IfOk, IsErrOf};
 ghost use Rattle.tuples.specs.Names.{IsName};
 ghost use Rattle.tuples.specs.Parsing.{Parses, own_text};
 ghost use Rattle.tuples.specs.Short.{max_short};
@@ -7,7 +7,7 @@ ghost use Rattle.tuples.specs.Short.{max_short};
 use crate::Refusal;
 use crate::grammar::is_name;
 use crate::name::Name;
-use std::alloc::Global;
+use std::alloc::{AllocError, Global};
 use std::marker::Model;
 
 /// The name of a namespace: 1 to 64 bytes of `a-z`, `0-9` and `_`.
@@ -38,6 +38,16 @@ impl Namespace {
         if !is_name(bytes) {
             return Err(Refusal::BadTuple);
         }
+        Ok(Self {
+            name: Name::from_slice(alloc, bytes)?,
+        })
+    }
+
+    // A namespace of these bytes, which are one.
+    pub(crate) fn of(alloc: Global, bytes: &[u8]) -> Result<Self, AllocError>
+        requires { IsName bytes.now }
+        ensures { IfOk result (λ a. a ≡ bytes.now) }
+    {
         Ok(Self {
             name: Name::from_slice(alloc, bytes)?,
         })

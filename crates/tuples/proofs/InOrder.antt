@@ -1,5 +1,5 @@
--- The order of packings is the order of tuples by user.
-use Rattle.std.proofs.Common.{◌≡◌, ◌<◌, ◌≤◌, ℕ, suc, Bool, true, false, List, [], ◌∷◌, ◌++◌, refl, sym, ap, ap₂, ◌∙◌, append_assoc, arith}
+-- The order of packings is that of tuples, or that of tuples by user.
+use Rattle.std.proofs.Common.{◌≡◌, ◌<◌, ◌≤◌, ℕ, Bool, true, List, [], ◌∷◌, ◌++◌, refl, sym, ap, ap₂, ◌∙◌, append_assoc, arith}
 use Rattle.std.specs.List.{AllByRecursion, list_all}
 use Rattle.std.proofs.lemmas.Bool.Decides.{nat_tests}
 use Rattle.std.specs.Cmp.{ranks}
@@ -13,9 +13,9 @@ use Rattle.tuples.specs.declared.user.User.{User}
 use Rattle.tuples.specs.declared.user.User.TheVariants.{Id, Set}
 use Rattle.tuples.specs.declared.tuple.Tuple.{Tuple}
 use Rattle.tuples.specs.ByUser.{by_user_cmp}
-use Rattle.tuples.specs.Order.{name_cmp, object_cmp, userset_cmp, user_cmp}
+use Rattle.tuples.specs.Order.{name_cmp, object_cmp, userset_cmp, user_cmp, tuple_cmp}
 use Rattle.tuples.specs.Texts.{IsObject, IsUserset, IsUser, IsTuple}
-use Rattle.tuples.specs.Packing.{packing, user_packing, userset_packing}
+use Rattle.tuples.specs.Packing.{packing, packing_by_user, user_packing, userset_packing}
 
 -- each byte is above each mark: marks are 0, 1 and 2
 abbrev pub AreAbove : List ℕ → Type 0
@@ -114,8 +114,27 @@ user_rest_cmp n k (Set s) (Set w) x y hn hk hu hv =
     marked_cmp n k 2 2 (userset_packing s ++ 0 ∷ x) (userset_packing w ++ 0 ∷ y) (omega arith) (omega arith) hn hk
     ∙ ap (ordering_then (name_cmp n k)) (same_mark_cmp 2 (userset_packing s ++ 0 ∷ x) (userset_packing w ++ 0 ∷ y) ∙ userset_rest_cmp s w x y hu hv)
 
--- the order of packings is that of their tuples by user
-pub packing_cmp : (a b : Tuple) → IsTuple a → IsTuple b → name_cmp (packing a) (packing b) ≡ by_user_cmp a b
+userset_packing_cmp : (a b : Userset) → IsUserset a → IsUserset b → name_cmp (userset_packing a) (userset_packing b) ≡ userset_cmp a b
+userset_packing_cmp a b va vb = object_packing_cmp a.object b.object a.relation b.relation va.object vb.object
+
+-- a relation, and the user after it
+relation_user_cmp : (r q : List ℕ) (u v : User) → AreAbove r → AreAbove q → IsUser u → IsUser v
+    → name_cmp (r ++ user_packing u) (q ++ user_packing v) ≡ ordering_then (name_cmp r q) (user_cmp u v)
+relation_user_cmp r q (Id i) (Id j) hr hq hu hv = marked_cmp r q 1 1 i j (omega arith) (omega arith) hr hq ∙ ap (ordering_then (name_cmp r q)) (same_mark_cmp 1 i j)
+relation_user_cmp r q (Id i) (Set s) hr hq hu hv = marked_cmp r q 1 2 i (userset_packing s) (omega arith) (omega arith) hr hq ∙ ap (λ o. ordering_then (name_cmp r q) (ordering_then o (name_cmp i (userset_packing s)))) (below 1 2 (omega arith))
+relation_user_cmp r q (Set s) (Id j) hr hq hu hv = marked_cmp r q 2 1 (userset_packing s) j (omega arith) (omega arith) hr hq ∙ ap (λ o. ordering_then (name_cmp r q) (ordering_then o (name_cmp (userset_packing s) j))) (above 2 1 (omega arith))
+relation_user_cmp r q (Set s) (Set w) hr hq hu hv =
+    marked_cmp r q 2 2 (userset_packing s) (userset_packing w) (omega arith) (omega arith) hr hq
+    ∙ ap (ordering_then (name_cmp r q)) (same_mark_cmp 2 (userset_packing s) (userset_packing w) ∙ userset_packing_cmp s w hu hv)
+
+-- the order of packings is that of their tuples
+pub packing_cmp : (a b : Tuple) → IsTuple a → IsTuple b → name_cmp (packing a) (packing b) ≡ tuple_cmp a b
 packing_cmp a b va vb =
+    object_packing_cmp a.object b.object (a.relation ++ user_packing a.user) (b.relation ++ user_packing b.user) va.object vb.object
+    ∙ ap (ordering_then (object_cmp a.object b.object)) (relation_user_cmp a.relation b.relation a.user b.user (name_above a.relation va.relation) (name_above b.relation vb.relation) va.user vb.user)
+
+-- the order of packings is that of their tuples by user
+pub by_user_packing_cmp : (a b : Tuple) → IsTuple a → IsTuple b → name_cmp (packing_by_user a) (packing_by_user b) ≡ by_user_cmp a b
+by_user_packing_cmp a b va vb =
     user_rest_cmp a.object.namespace b.object.namespace a.user b.user (a.object.id ++ 0 ∷ a.relation) (b.object.id ++ 0 ∷ b.relation) (name_above a.object.namespace va.object.namespace) (name_above b.object.namespace vb.object.namespace) va.user vb.user
     ∙ ap (λ o. ordering_then (name_cmp a.object.namespace b.object.namespace) (ordering_then (user_cmp a.user b.user) o)) (zero_cmp a.object.id b.object.id a.relation b.relation (id_above a.object.id va.object.id) (id_above b.object.id vb.object.id))

@@ -1,7 +1,7 @@
-use Rattle.std.proofs.Common.{◌≡◌, ◌+◌, ◌-◌, ◌==◌, length, take, drop, get_or, false, sym, ap, ◌∙◌, take_all, arith}
+use Rattle.std.proofs.Common.{◌≡◌, ◌+◌, ◌-◌, ◌==◌, length, take, drop, sym, ap, ◌∙◌, take_all, arith}
 use Rattle.std.proofs.lemmas.Grind.{common_steps}
 use Rattle.tuples.proofs.Unpacked.{drop_past, get_past, place_found, place_past}
-use Rattle.tuples.proofs.packed_by_user.cut_first.Goals as goal
+use Rattle.tuples.proofs.packing.cut_first.Goals as goal
 
 pub returns-in-Some-clause-front : goal.returns-in-Some-clause-front
 returns-in-Some-clause-front c = ap (λ n. take n c.args.text.now) (sym (place_found c.args.text.now c.in-Some.at (sym c.in-Some.ensures)).0)
