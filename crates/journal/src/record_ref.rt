@@ -5,7 +5,7 @@ ghost use Rattle.records.specs.Format.{IsRecord, record_bytes};
 
 use records::{Record, encode_decision, encode_prepare, encode_row};
 use std::alloc::AllocError;
-use tuples::{Entry, Tuple};
+use tuples::{Entry, Packed};
 
 /// A record that is spelled from where its parts lie: nothing is copied for it.
 #[derive(Clone, Copy)]
@@ -15,7 +15,7 @@ pub enum RecordRef<'a> {
     /// The mark of a version: at a place a touch of the tuple, or else a delete.
     Row {
         place: u64,
-        tuple: &'a Tuple,
+        tuple: &'a Packed,
         is_touch: bool,
     },
     /// The prepare of a part.

@@ -17,7 +17,7 @@ use crate::put_tuple::put_tuple;
 use crate::put_write::{put_change, put_entry, put_placed_ids, put_write_id};
 use crate::{Mark, PlacedIds, Record};
 use std::alloc::AllocError;
-use tuples::{Entry, Tuple};
+use tuples::{Entry, Packed};
 
 impl Record {
     /// Appends the bytes of the record, in the version that is written. It allocates nothing if the vector has room for them; if
@@ -58,7 +58,7 @@ pub fn encode_prepare(part: &Entry, out: &mut Vec<u8>) -> Result<(), AllocError>
 /// Memory is as in `Record::encode`.
 pub fn encode_row(
     place: u64,
-    tuple: &Tuple,
+    tuple: &Packed,
     is_touch: bool,
     out: &mut Vec<u8>,
 ) -> Result<(), AllocError>
@@ -143,14 +143,14 @@ fn put_mark(out: &mut Vec<u8>, mark: &Mark) -> Result<(), AllocError>
 }
 
 #[tactic(auto, unfolding(crate::specs::Format::record_bytes))]
-fn put_row(out: &mut Vec<u8>, place: u64, tuple: &Tuple, is_touch: bool) -> Result<(), AllocError>
+fn put_row(out: &mut Vec<u8>, place: u64, tuple: &Packed, is_touch: bool) -> Result<(), AllocError>
     ensures { Puts out.old out.new (record_bytes false (row_record place is_touch tuple.now)) result }
 {
     let kind = if is_touch { TOUCH } else { DELETE };
     put_bytes(out, &[CHECKPOINT, ROW])?;
     put_u64(out, place)?;
     put_byte(out, kind)?;
-    put_tuple(out, tuple)
+    put_tuple(out, &tuple.parts())
 }
 
 #[tactic(auto, unfolding(crate::specs::Format::record_bytes))]

@@ -26,11 +26,11 @@ pub(crate) fn put_change(out: &mut Vec<u8>, change: &Change) -> Result<(), Alloc
     match change {
         Change::Touch(tuple) => {
             put_byte(out, TOUCH)?;
-            put_tuple(out, tuple)
+            put_tuple(out, &tuple.parts())
         }
         Change::Delete(tuple) => {
             put_byte(out, DELETE)?;
-            put_tuple(out, tuple)
+            put_tuple(out, &tuple.parts())
         }
     }
 }
@@ -51,7 +51,7 @@ fn put_want(out: &mut Vec<u8>, want: &Want) -> Result<(), AllocError>
 fn put_condition(out: &mut Vec<u8>, condition: &Condition) -> Result<(), AllocError>
     ensures { Puts out.old out.new (condition_bytes false condition.now) result }
 {
-    put_tuple(out, &condition.tuple)?;
+    put_tuple(out, &condition.tuple.parts())?;
     put_want(out, &condition.want)
 }
 

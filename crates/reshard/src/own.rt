@@ -10,13 +10,13 @@ use records::Identity;
 use replay::Memory;
 use std::cmp::Ordering;
 use std::marker::Model;
-use tuples::{Tuple, shard_of};
+use tuples::Packed;
 use versions::{Row, Walk};
 
 /// A version, named by where it lies.
 #[derive(Clone, Copy)]
 pub(crate) struct Head<'a> {
-    pub tuple: &'a Tuple,
+    pub tuple: &'a Packed,
     pub row: Row,
 }
 
@@ -40,10 +40,10 @@ impl<'a> Model for Own<'a> {
 }
 
 // Whether the tuple is the node's.
-fn is_own(tuple: &Tuple, me: Identity) -> bool
+fn is_own(tuple: &Packed, me: Identity) -> bool
     ensures { result ≡ is_of me.shards me.node tuple.now }
 {
-    shard_of(&tuple.object, me.shards()) == me.node()
+    tuple.shard(me.shards()) == me.node()
 }
 
 // The next version that is the node's.

@@ -42,7 +42,7 @@ impl Packed {
         ensures value { IfOk result (λ p. p ≡ tuple.now) }
         ensures memory { OnErr result (max_short < length (packing tuple.now)) }
     {
-        let bytes = pack(&tuple.lent());
+        let bytes = pack(&tuple.parts());
         let text = Name::from_slice(alloc, bytes.as_slice())?;
         Ok(Packed { text })
     }
@@ -75,7 +75,7 @@ impl Packed {
     pub fn is(&self, tuple: &Tuple) -> bool
         ensures { result ≡ tuple_eq self.now tuple.now }
     {
-        self.has_text_of(&tuple.lent())
+        self.has_text_of(&tuple.parts())
     }
 
     /// Whether both pack one tuple, which takes no memory.

@@ -41,7 +41,7 @@ impl PackedByUser {
         ensures value { IfOk result (λ p. p ≡ tuple.now) }
         ensures memory { OnErr result (max_short < length (packing_by_user tuple.now)) }
     {
-        let bytes = pack(&tuple.lent());
+        let bytes = pack(&tuple.parts());
         let text = Name::from_slice(alloc, bytes.as_slice())?;
         Ok(PackedByUser { text })
     }
@@ -67,6 +67,13 @@ impl PackedByUser {
         ensures { IfOk result (λ tuple. tuple ≡ self.now) }
     {
         self.parts().copy(alloc)
+    }
+
+    /// Whether it packs this tuple, which takes no memory.
+    pub fn is(&self, tuple: &Tuple) -> bool
+        ensures { result ≡ eq_by_cmp by_user_cmp self.now tuple.now }
+    {
+        self.text.as_bytes() == pack(&tuple.parts()).as_slice()
     }
 }
 

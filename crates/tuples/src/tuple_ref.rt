@@ -162,7 +162,7 @@ impl User {
 
 impl Tuple {
     /// The tuple, by where its names and ids lie.
-    pub(crate) fn lent(&self) -> TupleRef<'_>
+    pub fn parts(&self) -> TupleRef<'_>
         ensures value { named_tuple result ≡ self.now }
         ensures grammar { IsTuple self.now }
     {

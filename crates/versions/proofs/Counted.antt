@@ -1,6 +1,5 @@
 -- How many versions are looked at.
 use Rattle.std.proofs.Common.{◌≡◌, ◌≤◌, ℕ, suc, ◌+◌, Bool, true, false, ◌&&◌, cond, List, [], ◌∷◌, ◌++◌, length, filter, inl, inr, refl, sym, ap, subst, ◌∙◌, arith}
-use Rattle.std.specs.Global.{Vec}
 use Rattle.std.specs.List.{AllByRecursion}
 use Rattle.std.specs.List.Sorted.{IsStrictlySortedBy}
 use Rattle.std.specs.Ordering.{is_eq}
@@ -38,11 +37,11 @@ own_count q t (r ∷ rows) = elim (cases_Bool (q t)) [
   | inr apart ↦ rw (ap q (tuple_of_change t r.is_touch)) (rw apart (own_count q t rows ∙ ap (λ (b : Bool). cond b (length rows) 0) apart))
 ]
 
-pub count_first : (q : Tuple → Bool) (t : Tuple) (h : Vec Row) (es : Entries) → count_of q (listed ((t, h) ∷ es)) ≡ cond (q t) (length h.items) 0 + count_of q (listed es)
+pub count_first : (q : Tuple → Bool) (t : Tuple) (h : List Row) (es : Entries) → count_of q (listed ((t, h) ∷ es)) ≡ cond (q t) (length h) 0 + count_of q (listed es)
 count_first q t h es =
-    ap (λ (l : List Version). length l) (filter-append _ (versions_of t h.items) (listed es))
-    ∙ length-append (filter (λ (v : Version). q (tuple_of v.change)) (versions_of t h.items)) (filter (λ (v : Version). q (tuple_of v.change)) (listed es))
-    ∙ ap (λ (n : ℕ). n + count_of q (listed es)) (own_count q t h.items)
+    ap (λ (l : List Version). length l) (filter-append _ (versions_of t h) (listed es))
+    ∙ length-append (filter (λ (v : Version). q (tuple_of v.change)) (versions_of t h)) (filter (λ (v : Version). q (tuple_of v.change)) (listed es))
+    ∙ ap (λ (n : ℕ). n + count_of q (listed es)) (own_count q t h)
 
 -- entries that are left out are not looked at
 pub count_fewer : (q p : Tuple → Bool) (es : Entries) → count_of q (listed (filter (λ e. p e.0) es)) ≤ count_of q (listed es)
@@ -158,9 +157,9 @@ pub rows_count : (t : Tuple) (rows : List Row) (vs : List Version) → versions_
 rows_count t rows vs own = sym (length-map rows (version_of t)) ∙ ap (λ (l : List Version). length l) own
 
 -- one entry of a walk that was looked at
-pub looked : (q : Tuple → Bool) (t : Tuple) (h : Vec Row) (rest left : Entries) (steps old most : ℕ) → q t ≡ true → steps ≡ old + length h.items → left ≡ (t, h) ∷ rest → old + count_of q (listed left) ≤ most → steps + count_of q (listed rest) ≤ most
+pub looked : (q : Tuple → Bool) (t : Tuple) (h : List Row) (rest left : Entries) (steps old most : ℕ) → q t ≡ true → steps ≡ old + length h → left ≡ (t, h) ∷ rest → old + count_of q (listed left) ≤ most → steps + count_of q (listed rest) ≤ most
 looked q t h rest left steps old most has more cut within =
-    let first : count_of q (listed left) ≡ length h.items + count_of q (listed rest) = ap (λ (l : Entries). count_of q (listed l)) cut ∙ count_first q t h rest ∙ ap (λ (b : Bool). cond b (length h.items) 0 + count_of q (listed rest)) has in
+    let first : count_of q (listed left) ≡ length h + count_of q (listed rest) = ap (λ (l : Entries). count_of q (listed l)) cut ∙ count_first q t h rest ∙ ap (λ (b : Bool). cond b (length h) 0 + count_of q (listed rest)) has in
     omega (arith, first, more, within)
 
 -- one tuple of a walk whose rows were looked at, or were not

@@ -96,6 +96,36 @@ followed_step p u n h false s is same = rw is (followed_high (nat_lt p u) s ∙ 
     followed_high true b = refl
     followed_high false b = refl
 
+-- what is left of a single row, and of none
+
+pub none_left : (h : ℕ) → rows_left h [] ≡ []
+unfolding rows_left
+none_left h = refl
+
+max_low : (p : ℕ) → nat_le (max p 0) p ≡ true
+max_low p = grind (arith, nat_tests)
+
+zero_low : (p : ℕ) → nat_le 0 p ≡ true
+zero_low p = grind (arith, nat_tests)
+
+newest_low : (p h : ℕ) → nat_le (cond (nat_le p h) (max p 0) 0) p ≡ true
+newest_low p h = ⊎_elim
+    (λ yes. rw yes (max_low p))
+    (λ no. rw no (zero_low p))
+    (cases_Bool (nat_le p h))
+
+turned : (a t : Bool) → (a || (t && true)) ≡ (t || a)
+turned true true = refl
+turned true false = refl
+turned false true = refl
+turned false false = refl
+
+pub single_left : (h : ℕ) (r : Row) → rows_left h (r ∷ []) ≡ cond (r.is_touch || nat_lt h r.place) (r ∷ []) []
+unfolding rows_left
+single_left h r =
+    ap (λ (b : Bool). cond (nat_lt h r.place || (r.is_touch && b)) (r ∷ []) []) (newest_low r.place h)
+    ∙ ap (λ (b : Bool). cond b (r ∷ []) []) (turned (nat_lt h r.place) r.is_touch)
+
 -- a row is followed if the newest one under the horizon lies above it
 followed_is : (h : ℕ) (t : Tuple) (r : Row) (rows : List Row) → superseded h (version_of t r) (versions_of t rows) ≡ nat_lt r.place (newest_under h rows)
 followed_is h t r [] = sym (zero_least r.place)

@@ -1,6 +1,5 @@
 -- An index by user beside its table.
 use Rattle.std.proofs.Common.{◌≡◌, ℕ, Bool, true, false, not, ◌&&◌, ◌||◌, cond, List, [], ◌∷◌, filter, Option, None, inl, inr, refl, sym, ap, ◌∙◌}
-use Rattle.std.specs.Global.{Vec}
 use Rattle.std.specs.Prelude.{is_some}
 use Rattle.std.specs.List.{list_any}
 use Rattle.std.specs.Map.{keys_of}
@@ -11,9 +10,9 @@ use Rattle.std.proofs.lemmas.Cmp.{tied_itself}
 use Rattle.std.proofs.lemmas.Map.Views.{any-filter_same}
 use Rattle.tuples.specs.declared.tuple.Tuple.{Tuple}
 use Rattle.tuples.specs.declared.user.User.{User}
-use Rattle.tuples.specs.contracts.tuple.TupleOrd.TheImpl.{ghosts}
-use Rattle.tuples.specs.Order.{name_cmp, tuple_eq, user_cmp}
-use Rattle.tuples.proofs.Ordered.{tuple_eq_from_same, tuple_eq_symm, same_tie}
+use Rattle.tuples.specs.Order.{name_cmp, tuple_eq, user_cmp, tuple_cmp}
+use Rattle.tuples.proofs.Ordered.{tuple_eq_from_same, tuple_eq_symm}
+use Rattle.versions.proofs.Tied.{same_tie}
 use Rattle.tuples.proofs.Same.{name_same, tuple_same, user_same, both_tie}
 use Rattle.tuples.proofs.Options.{same_tests}
 use Rattle.versions.specs.Index.{Forgets, HasSame, IsIndex, is_listed}
@@ -51,17 +50,17 @@ listed_any (u ∷ us) t = ap (λ (b : Bool). b || is_listed us t) (by_user_tie t
 changed : (k : Tuple) (there : Bool) (us vs : List Tuple) → ((q : Tuple) → is_listed vs q ≡ cond (is_at (by_user_cmp k) q) there (is_listed us q)) → (q : Tuple) → is_listed vs q ≡ cond (tuple_eq k q) there (is_listed us q)
 changed k there us vs is q = is q ∙ ap (λ (b : Bool). cond b there (is_listed us q)) (by_user_tie k q)
 
-changed_entry : (t : Tuple) (w : Option (Vec Row)) (es fs : Entries) → ((q : Tuple) → found q fs ≡ cond (is_at (ghosts.cmp t) q) w (found q es)) → (q : Tuple) → is_some (found q fs) ≡ cond (tuple_eq t q) (is_some w) (is_some (found q es))
-changed_entry t w es fs is q = ap (λ (o : Option (Vec Row)). is_some o) (is q) ∙ ap (λ (b : Bool). is_some (cond b w (found q es))) (same_tie t q) ∙ parted (tuple_eq t q)
+changed_entry : (t : Tuple) (w : Option (List Row)) (es fs : Entries) → ((q : Tuple) → found q fs ≡ cond (is_at (tuple_cmp t) q) w (found q es)) → (q : Tuple) → is_some (found q fs) ≡ cond (tuple_eq t q) (is_some w) (is_some (found q es))
+changed_entry t w es fs is q = ap (λ (o : Option (List Row)). is_some o) (is q) ∙ ap (λ (b : Bool). is_some (cond b w (found q es))) (same_tie t q) ∙ parted (tuple_eq t q)
   where
     parted : (b : Bool) → is_some (cond b w (found q es)) ≡ cond b (is_some w) (is_some (found q es))
     parted true = refl
     parted false = refl
 
 -- the same is done to the index and to the table
-pub index_changed : (k t : Tuple) → k ≡ t → (w : Option (Vec Row)) (us vs : List Tuple) (es fs : Entries) → IsIndex us es
+pub index_changed : (k t : Tuple) → k ≡ t → (w : Option (List Row)) (us vs : List Tuple) (es fs : Entries) → IsIndex us es
     → ((q : Tuple) → is_listed vs q ≡ cond (is_at (by_user_cmp k) q) (is_some w) (is_listed us q))
-    → ((q : Tuple) → found q fs ≡ cond (is_at (ghosts.cmp t) q) w (found q es))
+    → ((q : Tuple) → found q fs ≡ cond (is_at (tuple_cmp t) q) w (found q es))
     → IsIndex vs fs
 unfolding IsIndex
 index_changed k t same w us vs es fs old put entry q =
@@ -79,7 +78,7 @@ unfolding IsIndex
 index_back k t same us vs ws es fs old none stay put back q =
     changed t false vs ws back q
     ∙ ap (λ (b : Bool). cond (tuple_eq t q) false b) (changed k true us vs put q ∙ ap (λ (x : Tuple). cond (tuple_eq x q) true (is_listed us q)) same)
-    ∙ twice (tuple_eq t q) (is_listed us q) (λ is. old q ∙ ap (λ (x : Tuple). is_some (found x es)) (sym (tuple_same t q is)) ∙ ap (λ (o : Option (Vec Row)). is_some o) none)
+    ∙ twice (tuple_eq t q) (is_listed us q) (λ is. old q ∙ ap (λ (x : Tuple). is_some (found x es)) (sym (tuple_same t q is)) ∙ ap (λ (o : Option (List Row)). is_some o) none)
     ∙ old q
     ∙ ap (λ (l : Entries). is_some (found q l)) (sym stay)
   where
@@ -97,16 +96,16 @@ same_entries es fs is t = ap (λ (l : Entries). is_some (found t l)) is
 
 -- ---- what the keys tell
 
-pub some_by_keys : (t : Tuple) (es : Entries) → is_some (found t es) ≡ list_any (is_at (ghosts.cmp t)) (keys_of es)
+pub some_by_keys : (t : Tuple) (es : Entries) → is_some (found t es) ≡ list_any (is_at (tuple_cmp t)) (keys_of es)
 some_by_keys t [] = refl
-some_by_keys t ((u, h) ∷ es) = elim (cases_Bool (is_at (ghosts.cmp t) u)) [
+some_by_keys t ((u, h) ∷ es) = elim (cases_Bool (is_at (tuple_cmp t) u)) [
   | inl is ↦ rw is refl
   | inr apart ↦ rw apart (some_by_keys t es)
 ]
 
 pub same_keys : (es fs : Entries) → keys_of fs ≡ keys_of es → HasSame es fs
 unfolding HasSame
-same_keys es fs is t = some_by_keys t fs ∙ ap (λ (l : List Tuple). list_any (is_at (ghosts.cmp t)) l) is ∙ sym (some_by_keys t es)
+same_keys es fs is t = some_by_keys t fs ∙ ap (λ (l : List Tuple). list_any (is_at (tuple_cmp t)) l) is ∙ sym (some_by_keys t es)
 
 -- ---- what has no entry any more is left out
 

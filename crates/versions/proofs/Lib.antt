@@ -2,7 +2,9 @@ pub mod Equal
 pub mod Listed
 pub mod Alike
 pub mod Histories
+pub mod Tied
 pub mod Tables
+pub mod Shortened
 pub mod Placed
 pub mod Firsts
 pub mod Selected

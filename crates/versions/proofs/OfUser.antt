@@ -1,6 +1,5 @@
 -- A walk over the tuples of a namespace that name a user.
 use Rattle.std.proofs.Common.{◌≡◌, ℕ, Bool, true, false, ◌&&◌, ◌||◌, cond, List, [], ◌∷◌, filter, Option, None, Some, inl, inr, refl, sym, ap, subst, ◌∙◌}
-use Rattle.std.specs.Global.{Vec}
 use Rattle.std.specs.Prelude.{is_some}
 use Rattle.std.specs.List.{AllByRecursion, list_any}
 use Rattle.std.specs.List.Sorted.{IsStrictlySortedBy}
@@ -19,7 +18,8 @@ use Rattle.tuples.specs.Order.{name_cmp, tuple_eq, tuple_lt, user_cmp}
 use Rattle.tuples.specs.Reads.{AreAscending, IsSelection, meets}
 use Rattle.tuples.specs.Texts.{IsTuple}
 use Rattle.tuples.specs.Versions.{there_at}
-use Rattle.tuples.proofs.Ordered.{tuple_eq_refl, same_tie}
+use Rattle.tuples.proofs.Ordered.{tuple_eq_refl}
+use Rattle.versions.proofs.Tied.{same_tie}
 use Rattle.tuples.proofs.Same.{name_same, tuple_same, user_same}
 use Rattle.versions.specs.Index.{IsFirstOf, IsIndex, is_of_user}
 use Rattle.tuples.specs.ByUser.{by_user_cmp}
@@ -45,9 +45,9 @@ only_there place t es = by_entry (found t es) refl
     and_true true = refl
     and_true false = refl
 
-    by_entry : (o : Option (Vec Row)) → found t es ≡ o → (there_at (versions_of t (rows_in (found t es))) place t && is_some (found t es)) ≡ there_at (versions_of t (rows_in (found t es))) place t
+    by_entry : (o : Option (List Row)) → found t es ≡ o → (there_at (versions_of t (rows_in (found t es))) place t && is_some (found t es)) ≡ there_at (versions_of t (rows_in (found t es))) place t
     by_entry None is = rw is (ap (λ (b : Bool). b && false) (never place t) ∙ sym (never place t))
-    by_entry (Some h) is = rw is (and_true (there_at (versions_of t h.items) place t))
+    by_entry (Some h) is = rw is (and_true (there_at (versions_of t h) place t))
 
 and_assoc : (a b d : Bool) → ((a && b) && d) ≡ (a && (b && d))
 and_assoc true b d = refl

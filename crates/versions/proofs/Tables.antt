@@ -1,6 +1,5 @@
 -- A table of tuples, read tuple by tuple.
 use Rattle.std.proofs.Common.{◌≡◌, ◌≤◌, ⊎_elim, ℕ, zero, suc, ◌+◌, ◌-◌, Bool, true, false, cond, List, [], ◌∷◌, ◌++◌, length, take, Option, None, Some, inl, inr, refl, sym, ◌∙◌, ap, subst, append-nil, arith}
-use Rattle.std.specs.Global.{Vec}
 use Rattle.std.specs.List.{AllByRecursion, flat_map}
 use Rattle.std.specs.List.Sorted.{IsStrictlySortedBy}
 use Rattle.std.specs.Map.{keys_of, lookup, remove_entry, set_value}
@@ -14,11 +13,11 @@ use Rattle.std.proofs.lemmas.List.{take-map, take_at, length-map, length-append,
 use Rattle.std.proofs.lemmas.List.Elements.{filter-append}
 use Rattle.tuples.specs.declared.tuple.Tuple.{Tuple}
 use Rattle.tuples.specs.declared.version.Version.{Version}
-use Rattle.tuples.specs.contracts.tuple.TupleOrd.TheImpl.{ghosts}
 use Rattle.tuples.specs.Changes.{tuple_of}
-use Rattle.tuples.specs.Order.{tuple_eq, tuple_lt}
+use Rattle.tuples.specs.Order.{tuple_eq, tuple_lt, tuple_cmp}
 use Rattle.tuples.specs.Versions.{collected}
-use Rattle.tuples.proofs.Ordered.{tuple_eq_symm, tuple_lt_apart, tuple_lt_asymm, tuple_lt_irrefl, tuple_lt_total, tuple_lt_trans, same_order, same_tie}
+use Rattle.tuples.proofs.Ordered.{tuple_eq_symm, tuple_lt_apart, tuple_lt_asymm, tuple_lt_irrefl, tuple_lt_total, tuple_lt_trans}
+use Rattle.versions.proofs.Tied.{same_tie}
 use Rattle.tuples.proofs.Same.{tuple_same}
 use Rattle.versions.specs.Alike.{AreAlike, of_tuple}
 use Rattle.versions.specs.Rows.{IsTable, change_of, found, listed, rows_in, rows_left, version_of, versions_of}
@@ -27,20 +26,20 @@ use Rattle.versions.proofs.Alike.{alike_less, alike_none, alike_sym, collected_o
 use Rattle.versions.proofs.Histories.{collected_rows, of_other_rows, of_own_rows, tuple_of_change}
 
 abbrev pub Entries : Type 0
-Entries = List (Tuple × Vec Row)
+Entries = List (Tuple × List Row)
 
-pub before : (a b : Tuple) → ghosts.cmp a b ≡ Less → tuple_lt a b ≡ true
+pub before : (a b : Tuple) → tuple_cmp a b ≡ Less → tuple_lt a b ≡ true
 unfolding tuple_lt
-before a b less = ap is_lt (sym (same_order a b) ∙ less)
+before a b less = ap is_lt less
 
 abbrev pub AreSorted : Entries → Type 0
-AreSorted es = IsStrictlySortedBy ghosts.cmp (keys_of es)
+AreSorted es = IsStrictlySortedBy tuple_cmp (keys_of es)
 
-above_head : (t : Tuple) (es : Entries) → AllByRecursion (λ y. ghosts.cmp t y ≡ Less) (keys_of es) → of_tuple t (listed es) ≡ []
+above_head : (t : Tuple) (es : Entries) → AllByRecursion (λ y. tuple_cmp t y ≡ Less) (keys_of es) → of_tuple t (listed es) ≡ []
 above_head t [] above = refl
 above_head t ((u, h) ∷ es) above =
-    filter-append _ (versions_of u h.items) (listed es)
-    ∙ ap (λ (l : List Version). l ++ of_tuple t (listed es)) (of_other_rows t u h.items (tuple_lt_apart t u (before t u above.0)))
+    filter-append _ (versions_of u h) (listed es)
+    ∙ ap (λ (l : List Version). l ++ of_tuple t (listed es)) (of_other_rows t u h (tuple_lt_apart t u (before t u above.0)))
     ∙ above_head t es above.1
 
 head_own : (t u : Tuple) (rows : List Row) (rest : List Version) → tuple_eq t u ≡ true → of_tuple t rest ≡ [] → of_tuple t (versions_of u rows ++ rest) ≡ versions_of t rows
@@ -58,11 +57,11 @@ of_listed t [] sorted = refl
 of_listed t ((u, h) ∷ es) sorted = ⊎_elim
     (λ yes.
     let none : of_tuple t (listed es) ≡ [] = ap (λ (x : Tuple). of_tuple x (listed es)) (tuple_same t u yes) ∙ above_head u es sorted.0 in
-    head_own t u h.items (listed es) yes none
+    head_own t u h (listed es) yes none
     ∙ sym (ap (λ (b : Bool). versions_of t (rows_in (cond b (Some h) (found t es)))) (same_tie t u ∙ yes)))
     (λ no.
-    filter-append _ (versions_of u h.items) (listed es)
-    ∙ ap (λ (l : List Version). l ++ of_tuple t (listed es)) (of_other_rows t u h.items no)
+    filter-append _ (versions_of u h) (listed es)
+    ∙ ap (λ (l : List Version). l ++ of_tuple t (listed es)) (of_other_rows t u h no)
     ∙ of_listed t es sorted.1
     ∙ sym (ap (λ (b : Bool). versions_of t (rows_in (cond b (Some h) (found t es)))) (same_tie t u ∙ no)))
     (cases_Bool (tuple_eq t u))
@@ -70,12 +69,12 @@ of_listed t ((u, h) ∷ es) sorted = ⊎_elim
 -- ---- what a change of one entry makes of the versions
 
 -- an entry that gets more rows
-pub more_alike : (t : Tuple) (w : Option (Vec Row)) (more : List Row) (es fs : Entries) → AreSorted es → AreSorted fs
-    → ((q : Tuple) → found q fs ≡ cond (is_at (ghosts.cmp t) q) w (found q es))
+pub more_alike : (t : Tuple) (w : Option (List Row)) (more : List Row) (es fs : Entries) → AreSorted es → AreSorted fs
+    → ((q : Tuple) → found q fs ≡ cond (is_at (tuple_cmp t) q) w (found q es))
     → rows_in w ≡ rows_in (found t es) ++ more
     → AreAlike (listed fs) (listed es ++ versions_of t more)
 more_alike t w more es fs old new changed grown = record {
-  each = λ q. of_listed q fs new ∙ ap (λ (o : Option (Vec Row)). versions_of q (rows_in o)) (changed q)
+  each = λ q. of_listed q fs new ∙ ap (λ (o : Option (List Row)). versions_of q (rows_in o)) (changed q)
       ∙ elim (cases_Bool (tuple_eq t q)) [
         | inl is ↦
             ap (λ (b : Bool). versions_of q (rows_in (cond b w (found q es)))) (same_tie t q ∙ is)
@@ -103,13 +102,13 @@ fewer t rows more front k is left =
     sym (take-map (version_of t) k rows) ∙ ap (take k) is ∙ take_at front (versions_of t more) k (omega (arith, long, left))
 
 -- an entry that has lost its last rows
-pub fewer_alike : (t : Tuple) (w : Option (Vec Row)) (more : List Row) (front : List Version) (es fs : Entries) → AreSorted es → AreSorted fs
-    → ((q : Tuple) → found q fs ≡ cond (is_at (ghosts.cmp t) q) w (found q es))
+pub fewer_alike : (t : Tuple) (w : Option (List Row)) (more : List Row) (front : List Version) (es fs : Entries) → AreSorted es → AreSorted fs
+    → ((q : Tuple) → found q fs ≡ cond (is_at (tuple_cmp t) q) w (found q es))
     → rows_in w ≡ take (length (rows_in (found t es)) - length more) (rows_in (found t es))
     → AreAlike (listed es) (front ++ versions_of t more)
     → AreAlike (listed fs) front
 fewer_alike t w more front es fs old new changed cut whole = record {
-  each = λ q. of_listed q fs new ∙ ap (λ (o : Option (Vec Row)). versions_of q (rows_in o)) (changed q)
+  each = λ q. of_listed q fs new ∙ ap (λ (o : Option (List Row)). versions_of q (rows_in o)) (changed q)
       ∙ elim (cases_Bool (tuple_eq t q)) [
         | inl is ↦
             ap (λ (b : Bool). versions_of q (rows_in (cond b w (found q es)))) (same_tie t q ∙ is)
@@ -132,18 +131,18 @@ fewer_alike t w more front es fs old new changed cut whole = record {
 
 -- each entry with what is left of its versions
 left_in : ℕ → Entries → List Version
-left_in h = flat_map (λ (e : Tuple × Vec Row). collected h (versions_of e.0 e.1.items))
+left_in h = flat_map (λ (e : Tuple × List Row). collected h (versions_of e.0 e.1))
 
 collected_none : (h : ℕ) → collected h [] ≡ []
 unfolding collected
 collected_none h = refl
 
-above_left : (h : ℕ) (t : Tuple) (es : Entries) → AllByRecursion (λ y. ghosts.cmp t y ≡ Less) (keys_of es) → of_tuple t (left_in h es) ≡ []
+above_left : (h : ℕ) (t : Tuple) (es : Entries) → AllByRecursion (λ y. tuple_cmp t y ≡ Less) (keys_of es) → of_tuple t (left_in h es) ≡ []
 unfolding left_in
 above_left h t [] above = refl
 above_left h t ((u, r) ∷ es) above =
-    filter-append _ (collected h (versions_of u r.items)) (left_in h es)
-    ∙ ap (λ (l : List Version). l ++ of_tuple t (left_in h es)) (collected_own h t (versions_of u r.items) ∙ ap (collected h) (of_other_rows t u r.items (tuple_lt_apart t u (before t u above.0))) ∙ collected_none h)
+    filter-append _ (collected h (versions_of u r)) (left_in h es)
+    ∙ ap (λ (l : List Version). l ++ of_tuple t (left_in h es)) (collected_own h t (versions_of u r) ∙ ap (collected h) (of_other_rows t u r (tuple_lt_apart t u (before t u above.0))) ∙ collected_none h)
     ∙ above_left h t es above.1
 
 of_left : (h : ℕ) (t : Tuple) (es : Entries) → AreSorted es → of_tuple t (left_in h es) ≡ collected h (of_tuple t (listed es))
@@ -154,26 +153,26 @@ of_left h t ((u, r) ∷ es) sorted = elim (cases_Bool (tuple_eq t u)) [
       let same : t ≡ u = tuple_same t u is in
       let none : of_tuple t (left_in h es) ≡ [] = ap (λ (x : Tuple). of_tuple x (left_in h es)) same ∙ above_left h u es sorted.0 in
       let none_listed : of_tuple t (listed es) ≡ [] = ap (λ (x : Tuple). of_tuple x (listed es)) same ∙ above_head u es sorted.0 in
-      filter-append _ (collected h (versions_of u r.items)) (left_in h es)
-      ∙ ap (λ (l : List Version). of_tuple t (collected h (versions_of u r.items)) ++ l) none
-      ∙ append-nil (of_tuple t (collected h (versions_of u r.items)))
-      ∙ collected_own h t (versions_of u r.items)
-      ∙ ap (collected h) (sym (filter-append _ (versions_of u r.items) (listed es) ∙ ap (λ (l : List Version). of_tuple t (versions_of u r.items) ++ l) none_listed ∙ append-nil (of_tuple t (versions_of u r.items))))
+      filter-append _ (collected h (versions_of u r)) (left_in h es)
+      ∙ ap (λ (l : List Version). of_tuple t (collected h (versions_of u r)) ++ l) none
+      ∙ append-nil (of_tuple t (collected h (versions_of u r)))
+      ∙ collected_own h t (versions_of u r)
+      ∙ ap (collected h) (sym (filter-append _ (versions_of u r) (listed es) ∙ ap (λ (l : List Version). of_tuple t (versions_of u r) ++ l) none_listed ∙ append-nil (of_tuple t (versions_of u r))))
   | inr apart ↦
-      let other : of_tuple t (versions_of u r.items) ≡ [] = of_other_rows t u r.items apart in
-      filter-append _ (collected h (versions_of u r.items)) (left_in h es)
-      ∙ ap (λ (l : List Version). l ++ of_tuple t (left_in h es)) (collected_own h t (versions_of u r.items) ∙ ap (collected h) other ∙ collected_none h)
+      let other : of_tuple t (versions_of u r) ≡ [] = of_other_rows t u r apart in
+      filter-append _ (collected h (versions_of u r)) (left_in h es)
+      ∙ ap (λ (l : List Version). l ++ of_tuple t (left_in h es)) (collected_own h t (versions_of u r) ∙ ap (collected h) other ∙ collected_none h)
       ∙ of_left h t es sorted.1
-      ∙ ap (collected h) (sym (filter-append _ (versions_of u r.items) (listed es) ∙ ap (λ (l : List Version). l ++ of_tuple t (listed es)) other))
+      ∙ ap (collected h) (sym (filter-append _ (versions_of u r) (listed es) ∙ ap (λ (l : List Version). l ++ of_tuple t (listed es)) other))
 ]
 
-none_or_some : (b : Bool) (t : Tuple) (w : Vec Row) (rest : Entries) → (b ≡ false → w.items ≡ []) → listed (cond b ((t, w) ∷ rest) rest) ≡ versions_of t w.items ++ listed rest
+none_or_some : (b : Bool) (t : Tuple) (w : List Row) (rest : Entries) → (b ≡ false → w ≡ []) → listed (cond b ((t, w) ∷ rest) rest) ≡ versions_of t w ++ listed rest
 none_or_some true t w rest empty = refl
 none_or_some false t w rest empty = sym (ap (λ (l : List Row). versions_of t l ++ listed rest) (empty refl))
 
 -- a walk that leaves in each entry what is left under the horizon, and drops those if nothing is left
-module _ {F : Type 0} (h : ℕ) (T : F → Tuple → Vec Row → Bool → Vec Row → F → Type 0) (f : F)
-    (each : (k : Tuple) (v : Vec Row) (b : Bool) (w : Vec Row) (g : F) → T f k v b w g → (w.items ≡ rows_left h v.items) × (b ≡ false → w.items ≡ []) × (g ≡ f)) where
+module _ {F : Type 0} (h : ℕ) (T : F → Tuple → List Row → Bool → List Row → F → Type 0) (f : F)
+    (each : (k : Tuple) (v : List Row) (b : Bool) (w : List Row) (g : F) → T f k v b w g → (w ≡ rows_left h v) × (b ≡ false → w ≡ []) × (g ≡ f)) where
   kept_listed : (g : F) → g ≡ f → (es kept : Entries) → RetainsPairs T g es kept → listed kept ≡ left_in h es
   unfolding left_in
   kept_listed g same [] kept is = ap listed is
@@ -182,8 +181,8 @@ module _ {F : Type 0} (h : ℕ) (T : F → Tuple → Vec Row → Bool → Vec Ro
       ap listed is
       ∙ none_or_some b t w rest one.1
       ∙ ap (λ (l : List Row). versions_of t l ++ listed rest) one.0
-      ∙ ap (λ (l : List Version). l ++ listed rest) (collected_rows h t v.items)
-      ∙ ap (λ (l : List Version). collected h (versions_of t v.items) ++ l) (kept_listed next one.2 es rest more)
+      ∙ ap (λ (l : List Version). l ++ listed rest) (collected_rows h t v)
+      ∙ ap (λ (l : List Version). collected h (versions_of t v) ++ l) (kept_listed next one.2 es rest more)
 
   pub kept_alike : (es kept : Entries) → AreSorted es → RetainsPairs T f es kept → AreAlike (listed kept) (collected h (listed es))
   kept_alike es kept sorted is = record { each = λ t. ap (of_tuple t) (kept_listed f refl es kept is) ∙ of_left h t es sorted ∙ sym (collected_own h t (listed es)) }
@@ -191,7 +190,7 @@ module _ {F : Type 0} (h : ℕ) (T : F → Tuple → Vec Row → Bool → Vec Ro
 -- ---- entries that hold no versions
 
 -- an entry whose rows stay
-pub same_set : (test : Tuple → Bool) (es : Entries) (w : Vec Row) → rows_in (lookup test es) ≡ w.items → listed (set_value test es w) ≡ listed es
+pub same_set : (test : Tuple → Bool) (es : Entries) (w : List Row) → rows_in (lookup test es) ≡ w → listed (set_value test es w) ≡ listed es
 same_set test [] w same = refl
 same_set test ((t, v) ∷ es) w same = elim (cases_Bool (test t)) [
   | inl is ↦
@@ -199,7 +198,7 @@ same_set test ((t, v) ∷ es) w same = elim (cases_Bool (test t)) [
       ∙ ap (λ (l : List Row). versions_of t l ++ listed es) (sym (sym (ap (λ (b : Bool). rows_in (cond b (Some v) (lookup test es))) is) ∙ same))
   | inr apart ↦
       ap (λ (b : Bool). listed (cond b ((t, w) ∷ es) ((t, v) ∷ set_value test es w))) apart
-      ∙ ap (λ (l : List Version). versions_of t v.items ++ l) (same_set test es w (sym (ap (λ (b : Bool). rows_in (cond b (Some v) (lookup test es))) apart) ∙ same))
+      ∙ ap (λ (l : List Version). versions_of t v ++ l) (same_set test es w (sym (ap (λ (b : Bool). rows_in (cond b (Some v) (lookup test es))) apart) ∙ same))
 ]
 
 pub same_removed : (test : Tuple → Bool) (es : Entries) → rows_in (lookup test es) ≡ [] → listed (remove_entry test es) ≡ listed es
@@ -210,11 +209,11 @@ same_removed test ((t, v) ∷ es) none = elim (cases_Bool (test t)) [
       ∙ ap (λ (l : List Row). versions_of t l ++ listed es) (sym (sym (ap (λ (b : Bool). rows_in (cond b (Some v) (lookup test es))) is) ∙ none))
   | inr apart ↦
       ap (λ (b : Bool). listed (cond b es ((t, v) ∷ remove_entry test es))) apart
-      ∙ ap (λ (l : List Version). versions_of t v.items ++ l) (same_removed test es (sym (ap (λ (b : Bool). rows_in (cond b (Some v) (lookup test es))) apart) ∙ none))
+      ∙ ap (λ (l : List Version). versions_of t v ++ l) (same_removed test es (sym (ap (λ (b : Bool). rows_in (cond b (Some v) (lookup test es))) apart) ∙ none))
 ]
 
 -- a tuple that has no entry stays without one
-pub still_none : (t : Tuple) (es : Entries) → found t es ≡ None → (q : Tuple) → found q es ≡ cond (is_at (ghosts.cmp t) q) None (found q es)
+pub still_none : (t : Tuple) (es : Entries) → found t es ≡ None → (q : Tuple) → found q es ≡ cond (is_at (tuple_cmp t) q) None (found q es)
 still_none t es none q = elim (cases_Bool (tuple_eq t q)) [
   | inl is ↦ ap (λ (x : Tuple). found x es) (sym (tuple_same t q is)) ∙ none ∙ sym (ap (λ (b : Bool). cond b None (found q es)) (same_tie t q ∙ is))
   | inr apart ↦ sym (ap (λ (b : Bool). cond b None (found q es)) (same_tie t q ∙ apart))
@@ -285,14 +284,14 @@ later_rows : (t u : Tuple) (rows : List Row) (rest : List Version) → tuple_lt 
 later_rows t u [] rest less later = later
 later_rows t u (r ∷ rows) rest less later = (ap (tuple_lt t) (tuple_of_change u r.is_touch) ∙ less, later_rows t u rows rest less later)
 
-later_listed : (t : Tuple) (es : Entries) → AllByRecursion (λ y. ghosts.cmp t y ≡ Less) (keys_of es) → AllByRecursion (λ (w : Version). tuple_lt t (tuple_of w.change) ≡ true) (listed es)
+later_listed : (t : Tuple) (es : Entries) → AllByRecursion (λ y. tuple_cmp t y ≡ Less) (keys_of es) → AllByRecursion (λ (w : Version). tuple_lt t (tuple_of w.change) ≡ true) (listed es)
 later_listed t [] above = tt
-later_listed t ((u, h) ∷ es) above = later_rows t u h.items (listed es) (before t u above.0) (later_listed t es above.1)
+later_listed t ((u, h) ∷ es) above = later_rows t u h (listed es) (before t u above.0) (later_listed t es above.1)
 
 grouped_listed : (es : Entries) → AreSorted es → IsGrouped (listed es)
 unfolding IsStrictlySortedBy IsGrouped
 grouped_listed [] sorted = tt
-grouped_listed ((t, h) ∷ es) sorted = grouped_rows t h.items (listed es) (grouped_listed es sorted.1) (later_listed t es sorted.0)
+grouped_listed ((t, h) ∷ es) sorted = grouped_rows t h (listed es) (grouped_listed es sorted.1) (later_listed t es sorted.0)
 
 -- tables with the same versions of each tuple are seen as one list
 pub listed_same : (es fs : Entries) → IsTable es → IsTable fs → AreAlike (listed es) (listed fs) → listed es ≡ listed fs
@@ -311,16 +310,16 @@ all_removed P test ((t, h) ∷ es) all = elim (cases_Bool (test t)) [
   | inr apart ↦ rw apart (all.0, all_removed P test es all.1)
 ]
 
-pub all_inserted : (P : Tuple → Type 0) (t : Tuple) (h : Vec Row) (es : Entries) → P t → AllByRecursion P (keys_of es) → AllByRecursion P (keys_of (insert_entry ghosts.cmp es t h))
+pub all_inserted : (P : Tuple → Type 0) (t : Tuple) (h : List Row) (es : Entries) → P t → AllByRecursion P (keys_of es) → AllByRecursion P (keys_of (insert_entry tuple_cmp es t h))
 all_inserted P t h [] one all = (one, tt)
-all_inserted P t h ((u, k) ∷ es) one all = put (ghosts.cmp t u) (all_inserted P t h es one all.1)
+all_inserted P t h ((u, k) ∷ es) one all = put (tuple_cmp t u) (all_inserted P t h es one all.1)
   where
-    put : (o : Ordering) → AllByRecursion P (keys_of (insert_entry ghosts.cmp es t h)) → AllByRecursion P (keys_of (match_ordering o ((t, h) ∷ (u, k) ∷ es) ((u, h) ∷ es) ((u, k) ∷ insert_entry ghosts.cmp es t h)))
+    put : (o : Ordering) → AllByRecursion P (keys_of (insert_entry tuple_cmp es t h)) → AllByRecursion P (keys_of (match_ordering o ((t, h) ∷ (u, k) ∷ es) ((u, h) ∷ es) ((u, k) ∷ insert_entry tuple_cmp es t h)))
     put Less more = (one, all)
     put Equal more = all
     put Greater more = (all.0, more)
 
-pub all_retained : {F : Type 0} (P : Tuple → Type 0) (T : F → Tuple → Vec Row → Bool → Vec Row → F → Type 0) (f : F) (es kept : Entries) → AllByRecursion P (keys_of es) → RetainsPairs T f es kept → AllByRecursion P (keys_of kept)
+pub all_retained : {F : Type 0} (P : Tuple → Type 0) (T : F → Tuple → List Row → Bool → List Row → F → Type 0) (f : F) (es kept : Entries) → AllByRecursion P (keys_of es) → RetainsPairs T f es kept → AllByRecursion P (keys_of kept)
 all_retained P T f [] kept all is = subst (λ (l : Entries). AllByRecursion P (keys_of l)) (sym is) tt
 all_retained P T f ((t, v) ∷ es) kept all (b, w, next, rest, called, more, is) = subst (λ (l : Entries). AllByRecursion P (keys_of l)) (sym is) (put b (all_retained P T next es rest all.1 more))
   where
@@ -330,7 +329,7 @@ all_retained P T f ((t, v) ∷ es) kept all (b, w, next, rest, called, more, is)
 
 -- ---- what stays of the keys
 
-few_kept : {F : Type 0} (T : F → Tuple → Vec Row → Bool → Vec Row → F → Type 0) (f : F) (es kept : Entries) → RetainsPairs T f es kept → length kept ≤ length es
+few_kept : {F : Type 0} (T : F → Tuple → List Row → Bool → List Row → F → Type 0) (f : F) (es kept : Entries) → RetainsPairs T f es kept → length kept ≤ length es
 few_kept T f [] kept is = subst (λ (l : Entries). length l ≤ 0) (sym is) (omega arith)
 few_kept T f ((t, v) ∷ es) kept (b, w, next, rest, called, more, is) = subst (λ (l : Entries). length l ≤ suc (length es)) (sym is) (put b (few_kept T next es rest more))
   where
@@ -339,7 +338,7 @@ few_kept T f ((t, v) ∷ es) kept (b, w, next, rest, called, more, is) = subst (
     put false few = omega (arith, few)
 
 -- a walk that drops no entry leaves the keys as they were
-pub kept_keys : {F : Type 0} (T : F → Tuple → Vec Row → Bool → Vec Row → F → Type 0) (f : F) (es kept : Entries) → length es ≤ length kept → RetainsPairs T f es kept → keys_of kept ≡ keys_of es
+pub kept_keys : {F : Type 0} (T : F → Tuple → List Row → Bool → List Row → F → Type 0) (f : F) (es kept : Entries) → length es ≤ length kept → RetainsPairs T f es kept → keys_of kept ≡ keys_of es
 kept_keys T f [] kept many is = ap keys_of is
 kept_keys T f ((t, v) ∷ es) kept many (b, w, next, rest, called, more, is) =
     ap keys_of is ∙ put b (few_kept T next es rest more) (subst (λ (l : Entries). suc (length es) ≤ length l) is many) (λ long. kept_keys T next es rest long more)

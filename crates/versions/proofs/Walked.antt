@@ -11,10 +11,9 @@ use Rattle.std.proofs.lemmas.Cmp.{tied_itself}
 use Rattle.std.proofs.lemmas.List.Elements.{filter-append}
 use Rattle.tuples.specs.declared.tuple.Tuple.{Tuple}
 use Rattle.tuples.specs.declared.version.Version.{Version}
-use Rattle.tuples.specs.contracts.tuple.TupleOrd.TheImpl.{ghosts}
 use Rattle.tuples.specs.Changes.{tuple_of}
 use Rattle.tuples.specs.Order.{tuple_cmp}
-use Rattle.tuples.proofs.Ordered.{tuple_total, same_order}
+use Rattle.tuples.proofs.Ordered.{tuple_total}
 use Rattle.versions.specs.Alike.{of_tuple}
 use Rattle.versions.specs.Rows.{IsTable, listed, version_cmp, version_of, versions_of}
 use Rattle.versions.specs.Walks.{IsInOrder, Rise}
@@ -56,11 +55,11 @@ same_tuple t a b le =
     ∙ no_less a.place b.place le
 
 -- versions of a tuple and of a later one
-later_tuple : (t u : Tuple) (a b : Row) → ghosts.cmp t u ≡ Less → is_lt (version_cmp (version_of u b) (version_of t a)) ≡ false
+later_tuple : (t u : Tuple) (a b : Row) → tuple_cmp t u ≡ Less → is_lt (version_cmp (version_of u b) (version_of t a)) ≡ false
 later_tuple t u a b less =
     ap (λ (x : Tuple). is_lt (ordering_then (tuple_cmp x (tuple_of (version_of t a).change)) (nat_cmp b.place a.place))) (tuple_of_change u b.is_touch)
     ∙ ap (λ (x : Tuple). is_lt (ordering_then (tuple_cmp u x) (nat_cmp b.place a.place))) (tuple_of_change t a.is_touch)
-    ∙ ap (λ (o : Ordering). is_lt (ordering_then o (nat_cmp b.place a.place))) (tuple_total.antisymm u t ∙ ap ordering_reverse (sym (same_order t u) ∙ less))
+    ∙ ap (λ (o : Ordering). is_lt (ordering_then o (nat_cmp b.place a.place))) (tuple_total.antisymm u t ∙ ap ordering_reverse less)
 
 -- ---- lists that rise
 
@@ -79,17 +78,17 @@ rise_back (v ∷ vs) us rise = rise_back vs us (rise_rest v (vs ++ us) rise)
 
 -- ---- one entry, and those after it
 
-behind_rows : (t u : Tuple) (a : Row) (rows : List Row) (rest : List Version) → ghosts.cmp t u ≡ Less → (Follow rest → Follow (version_of t a ∷ rest))
+behind_rows : (t u : Tuple) (a : Row) (rows : List Row) (rest : List Version) → tuple_cmp t u ≡ Less → (Follow rest → Follow (version_of t a ∷ rest))
     → Follow (versions_of u rows ++ rest) → Follow (version_of t a ∷ (versions_of u rows ++ rest))
 behind_rows t u a [] rest less next follow = next follow
 behind_rows t u a (b ∷ rows) rest less next follow = (later_tuple t u a b less, follow)
 
 -- after the versions of a tuple stand those of later tuples
-behind : (t : Tuple) (a : Row) (es : Entries) → AllByRecursion (λ y. ghosts.cmp t y ≡ Less) (keys_of es) → Follow (listed es) → Follow (version_of t a ∷ listed es)
+behind : (t : Tuple) (a : Row) (es : Entries) → AllByRecursion (λ y. tuple_cmp t y ≡ Less) (keys_of es) → Follow (listed es) → Follow (version_of t a ∷ listed es)
 behind t a [] above follow = tt
-behind t a ((u, h) ∷ es) above follow = behind_rows t u a h.items (listed es) above.0 (λ next. behind t a es above.1 next) follow
+behind t a ((u, h) ∷ es) above follow = behind_rows t u a h (listed es) above.0 (λ next. behind t a es above.1 next) follow
 
-own_first : (t : Tuple) (rows : List Row) (es : Entries) → AllByRecursion (λ y. ghosts.cmp t y ≡ Less) (keys_of es) → Rise (versions_of t rows) → Follow (listed es) → Follow (versions_of t rows ++ listed es)
+own_first : (t : Tuple) (rows : List Row) (es : Entries) → AllByRecursion (λ y. tuple_cmp t y ≡ Less) (keys_of es) → Rise (versions_of t rows) → Follow (listed es) → Follow (versions_of t rows ++ listed es)
 own_first t [] es above rise follow = follow
 own_first t (a ∷ []) es above rise follow = behind t a es above follow
 own_first t (a ∷ b ∷ rows) es above rise follow = (same_tuple t a b rise.0, own_first t (b ∷ rows) es above rise.1 follow)
@@ -98,10 +97,10 @@ follow_listed : (es : Entries) → AreSorted es → ((t : Tuple) → Rise (of_tu
 unfolding IsStrictlySortedBy
 follow_listed [] sorted rise = tt
 follow_listed ((t, h) ∷ es) sorted rise =
-    let parts : (u : Tuple) → Rise (of_tuple u (versions_of t h.items) ++ of_tuple u (listed es)) = λ u. subst Rise (filter-append _ (versions_of t h.items) (listed es)) (rise u) in
-    own_first t h.items es sorted.0
-    (subst Rise (of_own_rows t h.items) (rise_front (of_tuple t (versions_of t h.items)) (of_tuple t (listed es)) (parts t)))
-    (follow_listed es sorted.1 (λ u. rise_back (of_tuple u (versions_of t h.items)) (of_tuple u (listed es)) (parts u)))
+    let parts : (u : Tuple) → Rise (of_tuple u (versions_of t h) ++ of_tuple u (listed es)) = λ u. subst Rise (filter-append _ (versions_of t h) (listed es)) (rise u) in
+    own_first t h es sorted.0
+    (subst Rise (of_own_rows t h) (rise_front (of_tuple t (versions_of t h)) (of_tuple t (listed es)) (parts t)))
+    (follow_listed es sorted.1 (λ u. rise_back (of_tuple u (versions_of t h)) (of_tuple u (listed es)) (parts u)))
 
 pub listed_in_order : (es : Entries) → IsTable es → IsInOrder (listed es)
 listed_in_order es table rise = follow_sorted (listed es) (follow_listed es table.in_order rise)

@@ -3,7 +3,6 @@ use Rattle.std.specs.Prelude.{ℕ, ◌≡◌, Bool, true, false, ◌&&◌, List,
 use Rattle.std.specs.BTreeMap.{is_at}
 use Rattle.std.specs.List.{list_any}
 use Rattle.std.specs.Ordering.{eq_by_cmp, is_eq, is_le}
-use Rattle.std.specs.Global.{Vec}
 use Rattle.std.specs.declared.cmp.Ordering.TheVariants.{Less}
 use Rattle.tuples.specs.declared.tuple.Tuple.{Tuple}
 use Rattle.tuples.specs.declared.tupleset.Tupleset.{Tupleset}
@@ -26,11 +25,11 @@ abbrev pub Forgets : Tuple → List Tuple → List Tuple → Type 0
 Forgets t us vs = (q : Tuple) → is_listed vs q ≡ (if is_at (by_user_cmp t) q then false else is_listed us q)
 
 -- the tuples of the index are those that have an entry in the table
-unfoldable pub IsIndex : List Tuple → List (Tuple × Vec Row) → Type 0
+unfoldable pub IsIndex : List Tuple → List (Tuple × List Row) → Type 0
 IsIndex us es = (t : Tuple) → is_listed us t ≡ is_some (found t es)
 
 -- the same tuples have an entry
-unfoldable pub HasSame : List (Tuple × Vec Row) → List (Tuple × Vec Row) → Type 0
+unfoldable pub HasSame : List (Tuple × List Row) → List (Tuple × List Row) → Type 0
 HasSame es fs = (t : Tuple) → is_some (found t fs) ≡ is_some (found t es)
 
 -- the tuple is of the namespace and names the user

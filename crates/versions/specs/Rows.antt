@@ -5,7 +5,6 @@ use Rattle.std.specs.List.Sorted.{IsPermutation, IsSorted, IsStrictlySortedBy}
 use Rattle.std.specs.Map.{keys_of, lookup}
 use Rattle.std.specs.BTreeMap.{is_at}
 use Rattle.std.specs.Ordering.{is_eq, is_le, nat_cmp, ordering_then}
-use Rattle.std.specs.Global.{Vec}
 use Rattle.std.specs.declared.cmp.Ordering.{Ordering}
 use Rattle.std.specs.declared.cmp.Ordering.TheVariants.{Less}
 use Rattle.tuples.specs.declared.change.Change.{Change}
@@ -14,7 +13,6 @@ use Rattle.tuples.specs.declared.tuple.Tuple.{Tuple}
 use Rattle.tuples.specs.declared.object.Userset.{Userset}
 use Rattle.tuples.specs.declared.user.User.{User}
 use Rattle.tuples.specs.declared.version.Version.{Version}
-use Rattle.tuples.specs.contracts.tuple.TupleOrd.TheImpl.{ghosts}
 use Rattle.tuples.specs.Changes.{tuple_of}
 use Rattle.tuples.specs.Order.{object_cmp, tuple_cmp, user_cmp}
 use Rattle.tuples.specs.Reads.{AreAscending, same_name}
@@ -43,12 +41,12 @@ abbrev pub versions_of : Tuple → List Row → List Version
 versions_of t = map (version_of t)
 
 -- the versions of a table: of each tuple, in the order of tuples, those of its rows
-abbrev pub listed : List (Tuple × Vec Row) → List Version
-listed = flat_map (λ (e : Tuple × Vec Row). versions_of e.0 e.1.items)
+abbrev pub listed : List (Tuple × List Row) → List Version
+listed = flat_map (λ (e : Tuple × List Row). versions_of e.0 e.1)
 
 -- the table as a map: one entry a tuple, each in its grammar, in the order of tuples
-pub record IsTable (es : List (Tuple × Vec Row)) : Type 0 where
-  pub in_order : IsStrictlySortedBy ghosts.cmp (keys_of es)
+pub record IsTable (es : List (Tuple × List Row)) : Type 0 where
+  pub in_order : IsStrictlySortedBy tuple_cmp (keys_of es)
   pub spelled : AllByRecursion IsTuple (keys_of es)
 
 -- the tuples of a set that pass a test, ascending
@@ -83,13 +81,13 @@ first_relation None = 48 ∷ []
 first_relation (Some r) = r
 
 -- what a look-up of the tuple finds
-abbrev pub found : Tuple → List (Tuple × Vec Row) → Option (Vec Row)
-found t = lookup (is_at (ghosts.cmp t))
+abbrev pub found : Tuple → List (Tuple × List Row) → Option (List Row)
+found t = lookup (is_at (tuple_cmp t))
 
 -- the rows of an entry that was found, and none of none
-abbrev pub rows_in : Option (Vec Row) → List Row
+abbrev pub rows_in : Option (List Row) → List Row
 rows_in None = []
-rows_in (Some h) = h.items
+rows_in (Some h) = h
 
 -- the greatest place at or below the horizon, 0 if none
 abbrev pub newest_under : ℕ → List Row → ℕ

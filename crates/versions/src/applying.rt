@@ -9,14 +9,15 @@ ghost use Rattle.versions.specs.Rows.{IsTable, listed};
 
 use crate::PlacedChanges;
 use crate::history::Row;
+use crate::rows::Rows;
 use crate::table::{add, take_back};
 use std::alloc::{AllocError, Global};
 use std::collections::{BTreeMap, BTreeSet};
-use tuples::{Change, PackedByUser, Tuple};
+use tuples::{Change, Packed, PackedByUser};
 
 /// Adds the changes of a write at its place. If memory is refused, nothing has changed.
 pub(crate) fn apply(
-    table: &mut BTreeMap<Tuple, Vec<Row>>,
+    table: &mut BTreeMap<Packed, Rows>,
     users: &mut BTreeSet<PackedByUser>,
     alloc: Global,
     place: u64,
@@ -38,7 +39,7 @@ pub(crate) fn apply(
 
 // If memory is refused, so many of the first changes were added.
 fn add_changes(
-    table: &mut BTreeMap<Tuple, Vec<Row>>,
+    table: &mut BTreeMap<Packed, Rows>,
     users: &mut BTreeSet<PackedByUser>,
     alloc: Global,
     place: u64,
@@ -55,7 +56,7 @@ fn add_changes(
     let mut added = 0;
     for change in changes {
         let row = Row::new(place, change);
-        if add(table, users, alloc, change.tuple(), &[row]).is_err() {
+        if add(table, users, alloc, change.tuple(), row).is_err() {
             return Err(added);
         }
         added += 1;
@@ -64,7 +65,7 @@ fn add_changes(
 }
 
 fn take_back_changes(
-    table: &mut BTreeMap<Tuple, Vec<Row>>,
+    table: &mut BTreeMap<Packed, Rows>,
     users: &mut BTreeSet<PackedByUser>,
     alloc: Global,
     changes: &[Change],
@@ -78,13 +79,13 @@ fn take_back_changes(
     let mut left = changes.len();
     while left > 0 {
         left -= 1;
-        take_back(table, users, alloc, changes[left].tuple(), 1);
+        take_back(table, users, alloc, changes[left].tuple());
     }
 }
 
 /// Adds the changes of these writes, each at its place. If memory is refused, nothing has changed.
 pub(crate) fn apply_all(
-    table: &mut BTreeMap<Tuple, Vec<Row>>,
+    table: &mut BTreeMap<Packed, Rows>,
     users: &mut BTreeSet<PackedByUser>,
     alloc: Global,
     writes: &[PlacedChanges],
@@ -105,7 +106,7 @@ pub(crate) fn apply_all(
 
 // If memory is refused, so many of the first writes were applied.
 fn apply_each(
-    table: &mut BTreeMap<Tuple, Vec<Row>>,
+    table: &mut BTreeMap<Packed, Rows>,
     users: &mut BTreeSet<PackedByUser>,
     alloc: Global,
     writes: &[PlacedChanges],
@@ -129,7 +130,7 @@ fn apply_each(
 }
 
 fn take_back_each(
-    table: &mut BTreeMap<Tuple, Vec<Row>>,
+    table: &mut BTreeMap<Packed, Rows>,
     users: &mut BTreeSet<PackedByUser>,
     alloc: Global,
     writes: &[PlacedChanges],

@@ -1,10 +1,10 @@
 // What is asked of a table: whether a tuple is one of those.
 ghost use Rattle.std.specs.Prelude.{◌≡◌};
+ghost use Rattle.tuples.specs.Named.{named_tuple};
 ghost use Rattle.tuples.specs.Reads.{has_relation};
-ghost use Rattle.tuples.specs.Walking.{is_set as is_userset};
 ghost use Rattle.versions.specs.Rows.{is_one_of, is_own_or_set};
 
-use tuples::{Relation, Tuple, Tupleset, User, Userset};
+use tuples::{Packed, Relation, Tuple, TupleRef, Tupleset, User, Userset};
 
 /// A question that each tuple answers.
 pub(crate) trait Asks {
@@ -14,7 +14,7 @@ pub(crate) trait Asks {
     /// Whether a tuple is one of those that are asked for.
     ghost asks: { Self → Tuple → Bool };
 
-    fn asks_for(&self, tuple: &Tuple) -> bool
+    fn asks_for(&self, tuple: &Packed) -> bool
         ensures { result ≡ asks self.now tuple.now };
 }
 
@@ -24,16 +24,16 @@ impl Asks for Tupleset {
 
     ghost asks = { meets };
 
-    #[tactic(auto, using(crate::proofs::Equal::same_namespace, crate::proofs::Equal::same_object, crate::proofs::Equal::same_user))]
-    fn asks_for(&self, tuple: &Tuple) -> bool {
+    fn asks_for(&self, tuple: &Packed) -> bool {
         match self {
             Tupleset::Key(key) => tuple.is(key),
-            Tupleset::OfObject(object, relation) => tuple.object == *object
-                && has_given(relation, tuple),
+            Tupleset::OfObject(object, relation) => {
+                let parts = tuple.parts();
+                parts.is_of(object) && has_this(relation, &parts)
+            }
             Tupleset::OfUser(namespace, user, relation) => {
-                tuple.object.namespace == *namespace
-                    && tuple.user == *user
-                    && has_given(relation, tuple)
+                let parts = tuple.parts();
+                parts.is_in(namespace) && parts.has_user(user) && has_this(relation, &parts)
             }
         }
     }
@@ -45,9 +45,18 @@ impl Asks for Userset {
 
     ghost asks = { is_set_of };
 
-    #[tactic(auto, using(crate::proofs::Equal::same_relation, crate::proofs::Equal::same_object))]
-    fn asks_for(&self, tuple: &Tuple) -> bool {
-        tuple.object == self.object && tuple.relation == self.relation && is_set(&tuple.user)
+    fn asks_for(&self, tuple: &Packed) -> bool {
+        let parts = tuple.parts();
+        parts.is_of(&self.object) && parts.has_relation(&self.relation) && parts.names_set()
+    }
+}
+
+fn has_this(relation: &Option<Relation>, tuple: &TupleRef<'_>) -> bool
+    ensures { result ≡ has_relation relation.now (named_tuple tuple.now) }
+{
+    match relation {
+        Some(relation) => tuple.has_relation(relation),
+        None => true,
     }
 }
 
@@ -63,23 +72,15 @@ pub(crate) fn has_given(relation: &Option<Relation>, tuple: &Tuple) -> bool
 }
 
 /// Whether the tuple is one of the userset.
-#[tactic(auto, using(crate::proofs::Equal::same_relation, crate::proofs::Equal::same_object))]
-pub(crate) fn is_of(userset: &Userset, tuple: &Tuple) -> bool
-    ensures { result ≡ is_one_of userset.now tuple.now }
+pub(crate) fn is_of(userset: &Userset, tuple: &TupleRef<'_>) -> bool
+    ensures { result ≡ is_one_of userset.now (named_tuple tuple.now) }
 {
-    tuple.object == userset.object && tuple.relation == userset.relation
+    tuple.is_of(&userset.object) && tuple.has_relation(&userset.relation)
 }
 
 /// Whether a check of the user asks for the tuple, if it is one of the userset.
-#[tactic(auto, using(crate::proofs::Equal::same_user))]
-pub(crate) fn is_asked(user: &User, tuple: &Tuple) -> bool
-    ensures { result ≡ is_own_or_set user.now tuple.now }
+pub(crate) fn is_asked(user: &User, tuple: &TupleRef<'_>) -> bool
+    ensures { result ≡ is_own_or_set user.now (named_tuple tuple.now) }
 {
-    tuple.user == *user || is_set(&tuple.user)
-}
-
-fn is_set(user: &User) -> bool
-    ensures { result ≡ is_userset user.now }
-{
-    matches!(user, User::Set(_))
+    tuple.has_user(user) || tuple.names_set()
 }

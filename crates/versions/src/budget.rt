@@ -2,9 +2,9 @@
 ghost use Rattle.std.specs.Prelude.{◌≡◌, ◌≤◌, ◌<◌, ◌+◌, ◌-◌, ◌^◌, ◌↔◌, IsTrue, IfOk, OnOk, OnErr};
 ghost use Rattle.versions.specs.Budget.{named_len, user_len, weight};
 
-use std::alloc::AllocError;
+use std::alloc::{AllocError, Global};
 use std::marker::Model;
-use tuples::{Object, Relation, Tuple, User};
+use tuples::{Object, Packed, Relation, Tuple, User};
 
 // A tuple takes 200 bytes. The list in which it lies has up to twice as many for it, and as it grows the old one beside the new.
 const TUPLE: u64 = 640;
@@ -96,11 +96,17 @@ impl Budget {
     }
 
     /// A copy of the tuple, which is counted.
-    pub(crate) fn copy(&mut self, tuple: &Tuple) -> Result<Tuple, AllocError>
-        ensures ok { IfOk result (λ copy. copy ≡ tuple.now) }
-        ensures counted { OnOk result (self.new + weight tuple.now ≡ self.old) }
+    pub(crate) fn copy(&mut self, alloc: Global, packed: &Packed) -> Result<Tuple, AllocError>
+        ensures ok { IfOk result (λ copy. copy ≡ packed.now) }
+        ensures counted { OnOk result (self.new + weight packed.now ≡ self.old) }
     {
-        self.take(tuple)?;
-        tuple.clone()
+        let tuple = packed.tuple(alloc)?;
+        match self.take(&tuple) {
+            Ok(()) => Ok(tuple),
+            Err(refused) => {
+                drop(tuple);
+                Err(refused)
+            }
+        }
     }
 }

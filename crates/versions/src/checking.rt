@@ -8,21 +8,22 @@ ghost use Rattle.versions.specs.Rows.{IsTable, listed};
 
 use crate::asks::{is_asked, is_of};
 use crate::first::first_set_of;
-use crate::history::{Row, is_there_at};
+use crate::history::is_there_at;
 use crate::kept::kept_from;
-use crate::table::rows_of;
+use crate::rows::Rows;
+use crate::table::{pack, rows_of};
 use crate::{Budget, Steps};
 use std::alloc::{AllocError, Global};
 use std::collections::BTreeMap;
 use std::sync::ledger::Ledger;
-use tuples::{Tuple, User, Userset};
+use tuples::{Packed, Tuple, User, Userset};
 
 // How many other plain users are passed from the user on before the first userset is searched for.
 const MOST_PASSED: u8 = 16;
 
 /// Copies of the tuples that are there at a place and by which the userset holds the user or a userset, ascending.
 pub(crate) fn asked_at<L: Ledger>(
-    table: &BTreeMap<Tuple, Vec<Row>>,
+    table: &BTreeMap<Packed, Rows>,
     alloc: Global,
     place: u64,
     userset: &Userset,
@@ -48,7 +49,7 @@ pub(crate) fn asked_at<L: Ledger>(
 
 // By one search for a plain user, and from there on; none if many other plain users stand between the user and the usersets.
 fn nearby<L: Ledger>(
-    table: &BTreeMap<Tuple, Vec<Row>>,
+    table: &BTreeMap<Packed, Rows>,
     alloc: Global,
     place: u64,
     userset: &Userset,
@@ -61,16 +62,17 @@ fn nearby<L: Ledger>(
     ensures rows { IfOk result (λ found. IfSome found (λ tuples. IsCheckSelection (there_at (listed table.now.entries) place) userset.now user.now tuples.items)) }
     ensures counted { IfOk result (λ found. IfSome found (λ tuples. budget.new + weights tuples.items ≡ budget.old)) }
 {
-    let first = holding(userset, user)?;
+    let first = pack(alloc, holding(userset, user)?)?;
     let mut tuples = Vec::new(alloc);
     let mut passed = 0u8;
     for (tuple, rows) in table.range(first..) {
-        if !is_of(userset, tuple) {
+        let parts = tuple.parts();
+        if !is_of(userset, &parts) {
             return Ok(Some(tuples));
         }
-        if is_asked(user, tuple) {
-            if is_there_at(rows, place, steps) {
-                tuples.push(budget.copy(tuple)?)?;
+        if is_asked(user, &parts) {
+            if is_there_at(&rows.lent(), place, steps) {
+                tuples.push(budget.copy(alloc, tuple)?)?;
             }
         } else {
             if passed == MOST_PASSED {
@@ -84,7 +86,7 @@ fn nearby<L: Ledger>(
 
 // By a search for the usersets, and one for a plain user.
 fn searched<L: Ledger>(
-    table: &BTreeMap<Tuple, Vec<Row>>,
+    table: &BTreeMap<Packed, Rows>,
     alloc: Global,
     place: u64,
     userset: &Userset,
@@ -97,17 +99,28 @@ fn searched<L: Ledger>(
     ensures counted { IfOk result (λ tuples. budget.new + weights tuples.items ≡ budget.old) }
 {
     // A plain user stands before all usersets, so other plain users are not met.
-    let first = first_set_of(alloc, userset)?;
+    let first = pack(alloc, first_set_of(alloc, userset)?)?;
     let sets = kept_from(table, alloc, place, userset, first, budget, steps)?;
     match user {
-        User::Id(_) => { with_user(table, place, holding(userset, user)?, sets, budget, steps) },
+        User::Id(_) => {
+            with_user(
+                table,
+                alloc,
+                place,
+                holding(userset, user)?,
+                sets,
+                budget,
+                steps,
+            )
+        },
         User::Set(_) => Ok(sets),
     }
 }
 
 // The tuple if it is there, and then these.
 fn with_user<L: Ledger>(
-    table: &BTreeMap<Tuple, Vec<Row>>,
+    table: &BTreeMap<Packed, Rows>,
+    alloc: Global,
     place: u64,
     tuple: Tuple,
     mut sets: Vec<Tuple>,
@@ -118,7 +131,7 @@ fn with_user<L: Ledger>(
     ensures rows { IfOk result (λ tuples. tuples.items ≡ (if there_at (listed table.now.entries) place tuple then tuple ∷ sets.items else sets.items)) }
     ensures counted { IfOk result (λ tuples. budget.new + weights tuples.items ≡ budget.old + weights sets.items) }
 {
-    if !is_there_at(rows_of(table, &tuple), place, steps) {
+    if !is_there_at(&rows_of(table, alloc, &tuple), place, steps) {
         return Ok(sets);
     }
     budget.take(&tuple)?;

@@ -1,6 +1,5 @@
 // Where a walk over the tuples of an object, or over those of a user, begins.
 ghost use Rattle.std.specs.Prelude.{◌≡◌, ◌∷◌, [], IfOk};
-ghost use Rattle.tuples.specs.Texts.{IsTuple, IsUser};
 ghost use Rattle.tuples.specs.declared.tupleset.Tupleset.TheVariants.{OfObject as of_object};
 ghost use Rattle.tuples.specs.Reads.{meets};
 ghost use Rattle.versions.specs.Index.{IsFirstOf};
@@ -101,30 +100,5 @@ fn first_id(alloc: Global) -> Result<Id, AllocError>
     match Id::parse(alloc, b"!") {
         Ok(id) => Ok(id),
         Err(_) => Err(AllocError),
-    }
-}
-
-/// Each part of a tuple is in its grammar.
-pub(crate) fn see_spelled(tuple: &Tuple)
-    ensures { IsTuple tuple.now }
-{
-    let _namespace = tuple.object.namespace.as_bytes();
-    let _id = tuple.object.id.as_bytes();
-    let _relation = tuple.relation.as_bytes();
-    see_user_spelled(&tuple.user);
-}
-
-fn see_user_spelled(user: &User)
-    ensures { IsUser user.now }
-{
-    match user {
-        User::Id(id) => {
-            let _id = id.as_bytes();
-        }
-        User::Set(userset) => {
-            let _namespace = userset.object.namespace.as_bytes();
-            let _id = userset.object.id.as_bytes();
-            let _relation = userset.relation.as_bytes();
-        }
     }
 }

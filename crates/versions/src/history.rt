@@ -3,12 +3,14 @@ ghost use Rattle.std.specs.Prelude.{◌≡◌, ◌+◌, IfOk, length};
 ghost use Rattle.tuples.specs.Changes.{tuple_of};
 ghost use Rattle.tuples.specs.Versions.{last_version, there_at};
 ghost use Rattle.tuples.specs.declared.tuple.Tuple.{Tuple as AnyTuple};
+ghost use Rattle.versions.specs.Kept.{lent_rows};
 ghost use Rattle.versions.specs.Rows.{newest_under, rows_left, version_of, versions_of};
 
 use crate::Steps;
-use std::alloc::AllocError;
+use crate::rows::RowsRef;
+use std::alloc::{AllocError, Global};
 use std::sync::ledger::Ledger;
-use tuples::{Change, Tuple, Version};
+use tuples::{Change, Packed, Version};
 
 /// A version of a tuple: the place of the change, and whether it touches the tuple or deletes it.
 #[derive(Clone, Copy, Drop)]
@@ -29,10 +31,10 @@ impl Row {
     }
 
     /// The version of the tuple that the row stands for, with a copy of the tuple.
-    pub fn version(&self, tuple: &Tuple) -> Result<Version, AllocError>
-        ensures { IfOk result (λ v. v ≡ version_of tuple.now self.now) }
+    pub fn version(&self, alloc: Global, packed: &Packed) -> Result<Version, AllocError>
+        ensures { IfOk result (λ v. v ≡ version_of packed.now self.now) }
     {
-        let tuple = tuple.clone()?;
+        let tuple = packed.tuple(alloc)?;
         let change = if self.is_touch {
             Change::Touch(tuple)
         } else {
@@ -57,7 +59,14 @@ pub(crate) fn last_place(rows: &[Row]) -> u64
 }
 
 /// Whether the tuple is there at a place; each row that is looked at is counted.
-pub(crate) fn is_there_at<L: Ledger>(rows: &[Row], place: u64, steps: &mut Steps<L>) -> bool
+pub(crate) fn is_there_at<L: Ledger>(rows: &RowsRef<'_>, place: u64, steps: &mut Steps<L>) -> bool
+    ensures there { (t : AnyTuple) → result ≡ there_at (versions_of t (lent_rows rows.now)) place t }
+    ensures steps { steps.new ≡ steps.old + length (lent_rows rows.now) }
+{
+    is_touched_at(rows.as_slice(), place, steps)
+}
+
+fn is_touched_at<L: Ledger>(rows: &[Row], place: u64, steps: &mut Steps<L>) -> bool
     ensures there { (t : AnyTuple) → result ≡ there_at (versions_of t rows.now) place t }
     ensures steps { steps.new ≡ steps.old + length rows.now }
 {

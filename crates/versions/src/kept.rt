@@ -8,18 +8,19 @@ ghost use Rattle.versions.specs.Rows.{IsFirst, IsPicked, IsTable, listed};
 
 use crate::asks::Asks;
 use crate::first::first_of;
-use crate::history::{Row, is_there_at};
+use crate::history::is_there_at;
 use crate::of_user::{OfUser, kept_of_user};
-use crate::table::copy;
+use crate::rows::Rows;
+use crate::table::pack;
 use crate::{Budget, Steps};
 use std::alloc::{AllocError, Global};
 use std::collections::{BTreeMap, BTreeSet};
 use std::sync::ledger::Ledger;
-use tuples::{PackedByUser, Tuple, Tupleset};
+use tuples::{Packed, PackedByUser, Tuple, Tupleset};
 
 /// Copies of the tuples that are there at a place and meet the tupleset, ascending. Each row that is looked at is counted.
 pub(crate) fn kept_at<L: Ledger>(
-    table: &BTreeMap<Tuple, Vec<Row>>,
+    table: &BTreeMap<Packed, Rows>,
     users: &BTreeSet<PackedByUser>,
     alloc: Global,
     place: u64,
@@ -34,9 +35,12 @@ pub(crate) fn kept_at<L: Ledger>(
     ensures steps { steps.new ≤ steps.old + count_met set.now (listed table.now.entries) }
 {
     match set {
-        Tupleset::Key(key) => kept_from(table, alloc, place, set, copy(key)?, budget, steps),
+        Tupleset::Key(key) => {
+            let first = Packed::of(alloc, key)?;
+            kept_from(table, alloc, place, set, first, budget, steps)
+        }
         Tupleset::OfObject(object, relation) => {
-            let first = first_of(alloc, object, relation)?;
+            let first = pack(alloc, first_of(alloc, object, relation)?)?;
             kept_from(table, alloc, place, set, first, budget, steps)
         }
         Tupleset::OfUser(namespace, user, relation) => {
@@ -52,11 +56,11 @@ pub(crate) fn kept_at<L: Ledger>(
 
 /// Copies of the tuples that are there at a place and asked for, ascending. Those that are asked for stand side by side, from the first on.
 pub(crate) fn kept_from<Q: Asks, L: Ledger>(
-    table: &BTreeMap<Tuple, Vec<Row>>,
+    table: &BTreeMap<Packed, Rows>,
     alloc: Global,
     place: u64,
     asked: &Q,
-    first: Tuple,
+    first: Packed,
     budget: &mut Budget,
     steps: &mut Steps<L>,
 ) -> Result<Vec<Tuple>, AllocError>
@@ -71,8 +75,8 @@ pub(crate) fn kept_from<Q: Asks, L: Ledger>(
         if !asked.asks_for(tuple) {
             return Ok(tuples);
         }
-        if is_there_at(rows, place, steps) {
-            tuples.push(budget.copy(tuple)?)?;
+        if is_there_at(&rows.lent(), place, steps) {
+            tuples.push(budget.copy(alloc, tuple)?)?;
         }
     }
     Ok(tuples)

@@ -17,6 +17,7 @@ mod history;
 mod kept;
 mod listing;
 mod of_user;
+mod rows;
 mod steps;
 mod table;
 mod uncounted;

@@ -4,14 +4,15 @@ ghost use Rattle.std.specs.List.Sorted.{IsPermutation, IsSorted};
 ghost use Rattle.versions.specs.Rows.{AreRows, listed, version_cmp, versions_of};
 
 use crate::history::Row;
+use crate::rows::Rows;
 use std::alloc::{AllocError, Global};
 use std::cmp::Ordering;
 use std::collections::BTreeMap;
-use tuples::{Tuple, Version};
+use tuples::{Packed, Version};
 
 /// Copies of the versions, by tuple and then by place.
 pub(crate) fn list(
-    table: &BTreeMap<Tuple, Vec<Row>>,
+    table: &BTreeMap<Packed, Rows>,
     alloc: Global,
 ) -> Result<Vec<Version>, AllocError>
     ensures { IfOk result (λ v. AreRows (listed table.now.entries) v.items) }
@@ -21,21 +22,26 @@ pub(crate) fn list(
     Ok(versions)
 }
 
-fn copies(table: &BTreeMap<Tuple, Vec<Row>>, alloc: Global) -> Result<Vec<Version>, AllocError>
+fn copies(table: &BTreeMap<Packed, Rows>, alloc: Global) -> Result<Vec<Version>, AllocError>
     ensures { IfOk result (λ v. v.items ≡ listed table.now.entries) }
 {
     let mut versions = Vec::new(alloc);
     for (tuple, rows) in table {
-        copy_rows(&mut versions, tuple, rows)?;
+        copy_rows(&mut versions, alloc, tuple, rows.lent().as_slice())?;
     }
     Ok(versions)
 }
 
-fn copy_rows(versions: &mut Vec<Version>, tuple: &Tuple, rows: &[Row]) -> Result<(), AllocError>
+fn copy_rows(
+    versions: &mut Vec<Version>,
+    alloc: Global,
+    tuple: &Packed,
+    rows: &[Row],
+) -> Result<(), AllocError>
     ensures { OnOk result (versions.new.items ≡ versions.old.items ++ versions_of tuple.now rows.now) }
 {
     for row in rows {
-        versions.push(row.version(tuple)?)?;
+        versions.push(row.version(alloc, tuple)?)?;
     }
     Ok(())
 }

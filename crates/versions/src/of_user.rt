@@ -9,13 +9,14 @@ ghost use Rattle.versions.specs.Rows.{IsTable, listed};
 
 use crate::asks::has_given;
 use crate::first::first_of_user;
-use crate::history::{Row, is_there_at};
+use crate::history::is_there_at;
+use crate::rows::Rows;
 use crate::table::rows_of;
 use crate::{Budget, Steps};
 use std::alloc::{AllocError, Global};
 use std::collections::{BTreeMap, BTreeSet};
 use std::sync::ledger::Ledger;
-use tuples::{Namespace, PackedByUser, Relation, Tuple, User};
+use tuples::{Namespace, Packed, PackedByUser, Relation, Tuple, User};
 
 /// Which tuples are asked for: those in a namespace that name a user, with a relation if one is given.
 #[derive(Clone, Copy)]
@@ -27,7 +28,7 @@ pub(crate) struct OfUser<'a> {
 
 /// Copies of those that are there at a place, ascending. Each row that is looked at is counted.
 pub(crate) fn kept_of_user<L: Ledger>(
-    table: &BTreeMap<Tuple, Vec<Row>>,
+    table: &BTreeMap<Packed, Rows>,
     users: &BTreeSet<PackedByUser>,
     alloc: Global,
     place: u64,
@@ -49,7 +50,9 @@ pub(crate) fn kept_of_user<L: Ledger>(
             drop(tuple);
             return Ok(tuples);
         }
-        if has_given(asked.relation, &tuple) && is_there_at(rows_of(table, &tuple), place, steps) {
+        if has_given(asked.relation, &tuple)
+            && is_there_at(&rows_of(table, alloc, &tuple), place, steps)
+        {
             push_counted(&mut tuples, budget, tuple)?;
         } else {
             drop(tuple);

@@ -1,62 +1,66 @@
 // A table of tuples, each with its versions, and the index by user of its tuples.
-ghost use Rattle.std.specs.Prelude.{◌≡◌, ◌++◌, [], false, not, List, None, filter, is_some, length, IfOk, OnOk, OnErr};
+ghost use Rattle.std.specs.Prelude.{◌≡◌, ◌++◌, ◌∷◌, [], false, not, List, None, Some, filter, is_some, length, take, ◌-◌, if◌then◌else◌, IfOk, OnOk, OnErr, MatchOption};
 ghost use Rattle.std.specs.Ordering.{eq_by_cmp};
 ghost use Rattle.tuples.specs.ByUser.{by_user_cmp};
+ghost use Rattle.tuples.specs.Order.{tuple_eq};
 ghost use Rattle.tuples.specs.Versions.{collected};
 ghost use Rattle.tuples.specs.declared.version.Version.{Version as AnyVersion};
 ghost use Rattle.versions.specs.Alike.{AreAlike, of_tuple};
 ghost use Rattle.versions.specs.Index.{Forgets, HasSame, IsIndex};
+ghost use Rattle.versions.specs.Kept.{lent_rows};
 ghost use Rattle.versions.specs.Rows.{IsTable, found, listed, rows_in, rows_left, versions_of};
 ghost use Rattle.versions.specs.declared.history.Row.{Row as AnyRow};
 
-use crate::first::see_spelled;
-use crate::history::{self, Row};
+use crate::history::Row;
+use crate::rows::{Rows, RowsRef};
 use std::alloc::{AllocError, Global};
 use std::collections::{BTreeMap, BTreeSet};
-use tuples::{PackedByUser, Tuple};
+use tuples::{Packed, PackedByUser, Tuple};
 
-/// Adds versions of a tuple. If memory is refused, nothing has changed.
+/// Adds a version of a tuple. If memory is refused, nothing has changed.
 pub(crate) fn add(
-    table: &mut BTreeMap<Tuple, Vec<Row>>,
+    table: &mut BTreeMap<Packed, Rows>,
     users: &mut BTreeSet<PackedByUser>,
     alloc: Global,
     tuple: &Tuple,
-    rows: &[Row],
+    row: Row,
 ) -> Result<(), AllocError>
     requires table { IsTable table.old.entries }
     requires index { IsIndex users.old.keys table.old.entries }
     ensures table { IsTable table.new.entries }
     ensures index { IsIndex users.new.keys table.new.entries }
-    ensures ok { OnOk result (AreAlike (listed table.new.entries) (listed table.old.entries ++ versions_of tuple.now rows.now)) }
+    ensures ok { OnOk result (AreAlike (listed table.new.entries) (listed table.old.entries ++ versions_of tuple.now (row ∷ []))) }
     ensures err { OnErr result (listed table.new.entries ≡ listed table.old.entries) }
 {
-    if let Some(own) = table.get_mut(tuple) {
-        own.extend_from_slice(rows)?;
+    let key = Packed::of(alloc, tuple)?;
+    if let Some(own) = table.get_mut(&key) {
+        own.push(alloc, row)?;
         return Ok(());
     }
-    insert(table, users, alloc, tuple, rows)
+    insert(table, users, alloc, tuple, key, row)
 }
 
 fn insert(
-    table: &mut BTreeMap<Tuple, Vec<Row>>,
+    table: &mut BTreeMap<Packed, Rows>,
     users: &mut BTreeSet<PackedByUser>,
     alloc: Global,
     tuple: &Tuple,
-    rows: &[Row],
+    key: Packed,
+    row: Row,
 ) -> Result<(), AllocError>
     requires table { IsTable table.old.entries }
     requires index { IsIndex users.old.keys table.old.entries }
+    requires key { key ≡ tuple.now }
     requires new { found tuple.now table.old.entries ≡ None }
     ensures table { IsTable table.new.entries }
     ensures index { IsIndex users.new.keys table.new.entries }
-    ensures ok { OnOk result (AreAlike (listed table.new.entries) (listed table.old.entries ++ versions_of tuple.now rows.now)) }
+    ensures ok { OnOk result (AreAlike (listed table.new.entries) (listed table.old.entries ++ versions_of tuple.now (row ∷ []))) }
     ensures err { OnErr result (listed table.new.entries ≡ listed table.old.entries) }
 {
-    see_spelled(tuple);
-    let own = Vec::from_slice(alloc, rows)?;
-    let key = copy(tuple)?;
+    tuple.keeps_grammar();
     let named = PackedByUser::of(alloc, tuple)?;
     users.insert(named)?;
+    let own = Rows::of(row);
     match table.insert(key, own) {
         Ok(_) => Ok(()),
         Err(_) => {
@@ -66,73 +70,134 @@ fn insert(
     }
 }
 
-pub(crate) fn copy(tuple: &Tuple) -> Result<Tuple, AllocError>
-    ensures { IfOk result (λ copy. copy ≡ tuple.now) }
+pub(crate) fn pack(alloc: Global, tuple: Tuple) -> Result<Packed, AllocError>
+    ensures { IfOk result (λ packed. packed ≡ tuple) }
 {
-    tuple.clone()
+    Packed::of(alloc, &tuple)
 }
 
 /// The versions of the tuple, in the order in which they were applied.
-pub(crate) fn rows_of<'a>(table: &'a BTreeMap<Tuple, Vec<Row>>, tuple: &Tuple) -> &'a [Row]
+pub(crate) fn rows_of<'a>(
+    table: &'a BTreeMap<Packed, Rows>,
+    alloc: Global,
+    tuple: &Tuple,
+) -> RowsRef<'a>
     requires { IsTable table.now.entries }
-    ensures rows { result.now ≡ rows_in (found tuple.now table.now.entries) }
-    ensures versions { versions_of tuple.now result.now ≡ of_tuple tuple.now (listed table.now.entries) }
+    ensures rows { lent_rows result ≡ rows_in (found tuple.now table.now.entries) }
+    ensures versions { versions_of tuple.now (lent_rows result) ≡ of_tuple tuple.now (listed table.now.entries) }
 {
-    match table.get(tuple) {
-        Some(rows) => rows,
-        None => &[],
+    match find(table, alloc, tuple) {
+        Some(rows) => rows.lent(),
+        None => RowsRef::List(&[]),
     }
 }
 
-/// Takes back so many versions of a tuple, which were added last.
+fn find<'a>(table: &'a BTreeMap<Packed, Rows>, alloc: Global, tuple: &Tuple) -> Option<&'a Rows>
+    ensures { MatchOption result (found tuple.now table.now.entries ≡ None) (λ rows. found tuple.now table.now.entries ≡ Some rows.now) }
+{
+    match Packed::of(alloc, tuple) {
+        Ok(key) => table.get(&key),
+        // Memory is refused for a long key, and to look at all entries takes none.
+        Err(_) => search(table, tuple),
+    }
+}
+
+fn search<'a>(table: &'a BTreeMap<Packed, Rows>, tuple: &Tuple) -> Option<&'a Rows>
+    ensures { MatchOption result (found tuple.now table.now.entries ≡ None) (λ rows. found tuple.now table.now.entries ≡ Some rows.now) }
+{
+    for (key, rows) in table {
+        if key.is(tuple) {
+            return Some(rows);
+        }
+    }
+    None
+}
+
+/// Takes back the version of a tuple that was added last.
 pub(crate) fn take_back(
-    table: &mut BTreeMap<Tuple, Vec<Row>>,
+    table: &mut BTreeMap<Packed, Rows>,
     users: &mut BTreeSet<PackedByUser>,
     alloc: Global,
     tuple: &Tuple,
-    count: usize,
 )
     requires table { IsTable table.old.entries }
     requires index { IsIndex users.old.keys table.old.entries }
     ensures table { IsTable table.new.entries }
     ensures index { IsIndex users.new.keys table.new.entries }
-    ensures versions { (before : List AnyVersion) (rows : List AnyRow) → length rows ≡ count → AreAlike (listed table.old.entries) (before ++ versions_of tuple.now rows) → AreAlike (listed table.new.entries) before }
+    ensures versions { (before : List AnyVersion) (row : AnyRow) → AreAlike (listed table.old.entries) (before ++ versions_of tuple.now (row ∷ [])) → AreAlike (listed table.new.entries) before }
 {
-    shorten(table, tuple, count);
-    remove_empty(table, users, alloc, tuple);
+    match Packed::of(alloc, tuple) {
+        Ok(key) => {
+            shorten(table, tuple, &key);
+            remove_empty(table, users, alloc, tuple, &key);
+        }
+        // Memory is refused for a long key. An entry without versions stays until the next collection.
+        Err(_) => shorten_by_search(table, tuple),
+    }
 }
 
-fn shorten(table: &mut BTreeMap<Tuple, Vec<Row>>, tuple: &Tuple, count: usize)
-    requires { IsTable table.old.entries }
+fn shorten(table: &mut BTreeMap<Packed, Rows>, tuple: &Tuple, key: &Packed)
+    requires table { IsTable table.old.entries }
+    requires key { key.now ≡ tuple.now }
     ensures table { IsTable table.new.entries }
     ensures entries { HasSame table.old.entries table.new.entries }
-    ensures versions { (before : List AnyVersion) (rows : List AnyRow) → length rows ≡ count → AreAlike (listed table.old.entries) (before ++ versions_of tuple.now rows) → AreAlike (listed table.new.entries) before }
+    ensures versions { (before : List AnyVersion) (row : AnyRow) → AreAlike (listed table.old.entries) (before ++ versions_of tuple.now (row ∷ [])) → AreAlike (listed table.new.entries) before }
 {
-    let Some(own) = table.get_mut(tuple) else {
+    let Some(own) = table.get_mut(key) else {
         return;
     };
-    let left = own.len().saturating_sub(count);
-    own.truncate(left);
+    own.pop();
+}
+
+fn shorten_by_search(table: &mut BTreeMap<Packed, Rows>, tuple: &Tuple)
+    requires table { IsTable table.old.entries }
+    ensures table { IsTable table.new.entries }
+    ensures entries { HasSame table.old.entries table.new.entries }
+    ensures versions { (before : List AnyVersion) (row : AnyRow) → AreAlike (listed table.old.entries) (before ++ versions_of tuple.now (row ∷ [])) → AreAlike (listed table.new.entries) before }
+{
+    table.retain(|key, rows| {
+        shorten_own(key, rows, tuple);
+        true
+    });
+}
+
+fn shorten_own(key: &Packed, rows: &mut Rows, tuple: &Tuple)
+    ensures { rows.new ≡ (if tuple_eq key.now tuple.now then take (length rows.old - 1) rows.old else rows.old) }
+{
+    if key.is(tuple) {
+        rows.pop();
+    }
 }
 
 // A tuple without versions has no entry.
 fn remove_empty(
-    table: &mut BTreeMap<Tuple, Vec<Row>>,
+    table: &mut BTreeMap<Packed, Rows>,
     users: &mut BTreeSet<PackedByUser>,
     alloc: Global,
     tuple: &Tuple,
+    key: &Packed,
 )
     requires table { IsTable table.old.entries }
     requires index { IsIndex users.old.keys table.old.entries }
+    requires key { key.now ≡ tuple.now }
     ensures table { IsTable table.new.entries }
     ensures index { IsIndex users.new.keys table.new.entries }
     ensures versions { listed table.new.entries ≡ listed table.old.entries }
 {
-    if !rows_of(table, tuple).is_empty() {
+    if has_rows(table, key) {
         return;
     }
-    if table.remove(tuple).is_some() {
+    if table.remove(key).is_some() {
         forget(users, alloc, tuple);
+    }
+}
+
+fn has_rows(table: &BTreeMap<Packed, Rows>, key: &Packed) -> bool
+    ensures { result ≡ false → rows_in (found key.now table.now.entries) ≡ [] }
+{
+    match table.get(key) {
+        Some(rows) => !rows.is_empty(),
+        None => false,
     }
 }
 
@@ -157,7 +222,7 @@ fn leave_out(users: &mut BTreeSet<PackedByUser>, tuple: &Tuple)
 
 /// Forgets what lies under the horizon.
 pub(crate) fn collect(
-    table: &mut BTreeMap<Tuple, Vec<Row>>,
+    table: &mut BTreeMap<Packed, Rows>,
     users: &mut BTreeSet<PackedByUser>,
     alloc: Global,
     horizon: u64,
@@ -176,27 +241,33 @@ pub(crate) fn collect(
 }
 
 // Leaves in the index what has an entry.
-fn forget_gone(users: &mut BTreeSet<PackedByUser>, alloc: Global, table: &BTreeMap<Tuple, Vec<Row>>)
+fn forget_gone(users: &mut BTreeSet<PackedByUser>, alloc: Global, table: &BTreeMap<Packed, Rows>)
     ensures { users.new.keys ≡ filter (λ t. is_some (found t table.now.entries)) users.old.keys }
 {
     users.retain(|named| has_entry(table, alloc, named));
 }
 
-fn has_entry(table: &BTreeMap<Tuple, Vec<Row>>, alloc: Global, named: &PackedByUser) -> bool
+fn has_entry(table: &BTreeMap<Packed, Rows>, alloc: Global, named: &PackedByUser) -> bool
     ensures { result ≡ is_some (found named.now table.now.entries) }
 {
-    match named.tuple(alloc) {
-        Ok(tuple) => table.contains_key(&tuple),
-        // Memory is refused for a long name, and to look at all entries takes none.
+    match pack_again(alloc, named) {
+        Ok(key) => table.contains_key(&key),
+        // Memory is refused for a long key, and to look at all entries takes none.
         Err(_) => is_among(table, named),
     }
 }
 
-fn is_among(table: &BTreeMap<Tuple, Vec<Row>>, named: &PackedByUser) -> bool
+fn pack_again(alloc: Global, named: &PackedByUser) -> Result<Packed, AllocError>
+    ensures { IfOk result (λ packed. packed ≡ named.now) }
+{
+    pack(alloc, named.tuple(alloc)?)
+}
+
+fn is_among(table: &BTreeMap<Packed, Rows>, named: &PackedByUser) -> bool
     ensures { result ≡ is_some (found named.now table.now.entries) }
 {
-    for (tuple, _rows) in table {
-        if named.is(tuple) {
+    for (key, _rows) in table {
+        if key.is_same(named) {
             return true;
         }
     }
@@ -204,10 +275,10 @@ fn is_among(table: &BTreeMap<Tuple, Vec<Row>>, named: &PackedByUser) -> bool
 }
 
 // Whether versions of a tuple are left under the horizon, once the others are forgotten.
-fn has_left(rows: &mut Vec<Row>, horizon: u64) -> bool
-    ensures left { rows.new.items ≡ rows_left horizon rows.old.items }
-    ensures none { result ≡ false → rows.new.items ≡ [] }
+fn has_left(rows: &mut Rows, horizon: u64) -> bool
+    ensures left { rows.new ≡ rows_left horizon rows.old }
+    ensures none { result ≡ false → rows.new ≡ [] }
 {
-    history::collect(rows, horizon);
+    rows.collect(horizon);
     !rows.is_empty()
 }

@@ -8,18 +8,20 @@ ghost use Rattle.versions.specs.Index.{IsIndex};
 ghost use Rattle.versions.specs.Rows.{IsTable, listed};
 
 use crate::checking::asked_at;
-use crate::history::{Row, is_there_at};
+use crate::history::is_there_at;
 use crate::kept::kept_at;
+use crate::rows::Rows;
 use crate::table::rows_of;
 use crate::{Budget, Steps};
 use std::alloc::{AllocError, Global};
 use std::collections::{BTreeMap, BTreeSet};
 use std::sync::ledger::{Blank, Ledger};
-use tuples::{PackedByUser, Tuple, Tupleset, User, Userset};
+use tuples::{Packed, PackedByUser, Tuple, Tupleset, User, Userset};
 
 /// Whether the tuple is there at a place.
 pub(crate) fn is_there<L: Ledger>(
-    table: &BTreeMap<Tuple, Vec<Row>>,
+    table: &BTreeMap<Packed, Rows>,
+    alloc: Global,
     place: u64,
     tuple: &Tuple,
     blank: Blank,
@@ -31,12 +33,12 @@ pub(crate) fn is_there<L: Ledger>(
     ensures { result ≡ there_at (listed table.now.entries) place tuple.now }
 {
     let mut steps = Steps::<L>::new(blank);
-    is_there_at(rows_of(table, tuple), place, &mut steps)
+    is_there_at(&rows_of(table, alloc, tuple), place, &mut steps)
 }
 
 /// Copies of the tuples that are there at a place and meet the tupleset, ascending.
 pub(crate) fn kept<L: Ledger>(
-    table: &BTreeMap<Tuple, Vec<Row>>,
+    table: &BTreeMap<Packed, Rows>,
     users: &BTreeSet<PackedByUser>,
     alloc: Global,
     place: u64,
@@ -58,7 +60,7 @@ pub(crate) fn kept<L: Ledger>(
 
 /// Copies of the tuples that are there at a place and by which the userset holds the user or a userset, ascending.
 pub(crate) fn asked<L: Ledger>(
-    table: &BTreeMap<Tuple, Vec<Row>>,
+    table: &BTreeMap<Packed, Rows>,
     alloc: Global,
     place: u64,
     userset: &Userset,

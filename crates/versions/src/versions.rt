@@ -11,15 +11,16 @@ ghost use Rattle.versions.specs.Placed.{all_placed};
 ghost use Rattle.versions.specs.Rows.{AreRows, listed};
 ghost use Rattle.versions.specs.Walks.{IsInOrder};
 
-use crate::history::{Row, last_place};
+use crate::history::last_place;
 use crate::kept::kept_at;
 use crate::listing::list;
+use crate::rows::Rows;
 use crate::{Budget, PlacedChanges, Steps, Walk, applying, table, uncounted};
 use std::alloc::{AllocError, Global};
 use std::collections::{BTreeMap, BTreeSet};
 use std::marker::{Brand, Model};
 use std::sync::ledger::{Blank, Ledger};
-use tuples::{Change, PackedByUser, Tuple, Tupleset, User, Userset, Version};
+use tuples::{Change, Packed, PackedByUser, Tuple, Tupleset, User, Userset, Version};
 
 /// The versions of tuples, which contracts see as a list. Of it only the order within one tuple is promised.
 ///
@@ -27,7 +28,7 @@ use tuples::{Change, PackedByUser, Tuple, Tupleset, User, Userset, Version};
 #[derive(Drop)]
 pub struct Versions {
     alloc: Global,
-    rows: BTreeMap<Tuple, Vec<Row>>,
+    rows: BTreeMap<Packed, Rows>,
     // the same tuples, in the order of namespaces and users
     users: BTreeSet<PackedByUser>,
 }
@@ -69,7 +70,7 @@ impl Versions {
     pub fn last(&self, tuple: &Tuple) -> u64
         ensures { result ≡ last_version self.now tuple.now }
     {
-        last_place(table::rows_of(&self.rows, tuple))
+        last_place(table::rows_of(&self.rows, self.alloc, tuple).as_slice())
     }
 
     /// Adds the changes of these writes, each at its place. If memory is refused, nothing has changed.
@@ -91,7 +92,7 @@ impl Versions {
     pub fn is_there(&self, place: u64, tuple: &Tuple) -> bool
         ensures { result ≡ there_at self.now place tuple.now }
     {
-        uncounted::is_there::<Brand>(&self.rows, place, tuple, Blank::new(1))
+        uncounted::is_there::<Brand>(&self.rows, self.alloc, place, tuple, Blank::new(1))
     }
 
     /// The tuples that are there at a place and meet the tupleset, ascending. Each is counted: what the budget has no bytes for is refused.

@@ -27,6 +27,6 @@ loop-left-preserved c = (
       let ends : front ++ placed place (take c.loop-left.left changes) ≡ (front ++ first) ++ versions_of c.tuple.result.now (row_of place one ∷ []) =
       ap (λ (l : List Version). front ++ l) (more ∙ ap (λ (l : List Version). first ++ l) (sym last)) ∙ sym (append_assoc front first (versions_of c.tuple.result.now (row_of place one ∷ [])))
       in
-      c.take_back.ensures.versions (front ++ first) (row_of place one ∷ []) refl (subst (AreAlike (listed c.loop-left.table.entries)) ends (c.loop-left.invariant.2 front place whole)),
+      c.take_back.ensures.versions (front ++ first) (row_of place one) (subst (AreAlike (listed c.loop-left.table.entries)) ends (c.loop-left.invariant.2 front place whole)),
   c.take_back.ensures.index,
 )

@@ -1,11 +1,11 @@
+use Rattle.tuples.specs.Order.{tuple_cmp}
 use Rattle.std.proofs.Common.{◌≡◌, ◌++◌, ◌∷◌, [], ◌&&◌, true, false, List, filter, sym, ap, subst, ◌∙◌, append-nil, append_assoc, rules}
 use Rattle.std.specs.Ordering.{is_le}
-use Rattle.tuples.specs.contracts.tuple.TupleOrd.TheImpl.{ghosts}
 use Rattle.tuples.specs.declared.tuple.Tuple.{Tuple}
 use Rattle.tuples.specs.Checking.{holding}
 use Rattle.tuples.specs.Versions.{there_at}
 use Rattle.tuples.specs.Walking.{meets_check}
-use Rattle.versions.specs.Rows.{IsPicked, is_one_of, listed, versions_of}
+use Rattle.versions.specs.Rows.{IsPicked, is_one_of, is_own_or_set, listed, versions_of}
 use Rattle.versions.specs.declared.history.Row.{Row}
 use Rattle.versions.proofs.Asked.{asked_of, selection_from, unasked_of}
 use Rattle.versions.proofs.Counted.{counted_more, counted_none}
@@ -21,13 +21,13 @@ loop-tuple-init g c =
     let u = c.args.user.now in
     let first = holding x u in
     let es : Entries = c.args.table.now.entries in
-    let is : c.in_ok-first.first ≡ first = c.in_ok-first.ensures in
-    let given : c.into_iter-tuple-iterator.result ≡ filter (λ e. is_le (ghosts.cmp c.in_ok-first.first e.0) && true) es = c.into_iter-tuple-iterator.ensures.into_iter_gives ∙ c.range-tuple-items.ensures.between tt in
-    let gives : c.into_iter-tuple-iterator.result ≡ filter (λ e. is_le (ghosts.cmp first e.0) && true) es = given ∙ ap (λ (f : Tuple). filter (λ e. is_le (ghosts.cmp f e.0) && true) es) is in (
-      subst (IsWalk first) (sym gives) (walk_from first (λ t. is_le (ghosts.cmp first t) && true) (low_from first) es c.requires.table.in_order),
+    let is : c.in_ok-first.first ≡ first = search rules in
+    let given : c.into_iter-tuple-iterator.result ≡ filter (λ e. is_le (tuple_cmp c.in_ok-first.first e.0) && true) es = c.into_iter-tuple-iterator.ensures.into_iter_gives ∙ c.range-tuple-items.ensures.between tt in
+    let gives : c.into_iter-tuple-iterator.result ≡ filter (λ e. is_le (tuple_cmp first e.0) && true) es = given ∙ ap (λ (f : Tuple). filter (λ e. is_le (tuple_cmp f e.0) && true) es) is in (
+      subst (IsWalk first) (sym gives) (walk_from first (λ t. is_le (tuple_cmp first t) && true) (low_from first) es c.requires.table.in_order),
       ap (λ (l : List Tuple). l ++ kept_of place (meets_check x u) c.into_iter-tuple-iterator.result) c.new-tuples.ensures.items
           ∙ ap (λ (l : Entries). kept_of place (meets_check x u) l) gives
-          ∙ kept_from_first place (meets_check x u) (λ t. is_le (ghosts.cmp first t) && true) (λ t spelled has. from_low first t (check_before x u c.requires.plain t has)) es c.requires.table.spelled,
+          ∙ kept_from_first place (meets_check x u) (λ t. is_le (tuple_cmp first t) && true) (λ t spelled has. from_low first t (check_before x u c.requires.plain t has)) es c.requires.table.spelled,
       counted_none c.new-tuples.result.items _ c.new-tuples.ensures.items,
     )
 
@@ -71,8 +71,10 @@ loop-tuple-preserved-in_ok-push g c =
     let rest : Entries = c.next.new.self in
     let items : List Tuple = c.loop-tuple.tuples.items in
     let cut : c.loop-tuple.tuple-iterator ≡ (t, h) ∷ rest = search rules in
-    let has : q t ≡ true = asked_of x u t (sym c.is_of.ensures ∙ c.if-not-is_of.false) ∙ sym c.is_asked.ensures ∙ c.if-is_asked.true in
-    let there : there_at (versions_of t h.items) place t ≡ true = ap (λ (l : List Row). there_at (versions_of t l) place t) (sym c.deref.ensures.value) ∙ sym (c.is_there_at.ensures.there t) ∙ c.if-is_there_at.true in
+    let own : is_one_of x t ≡ true = search rules in
+    let asked : is_own_or_set u t ≡ true = search rules in
+    let has : q t ≡ true = asked_of x u t own ∙ asked in
+    let there : there_at (versions_of t h) place t ≡ true = ap (λ (l : List Row). there_at (versions_of t l) place t) (sym c.lent.ensures) ∙ sym (c.is_there_at.ensures.there t) ∙ c.if-is_there_at.true in
     let pushed : c.push.new.self.items ≡ items ++ t ∷ [] = search rules in (
       walk_rest (holding x u) t h rest (subst (IsWalk (holding x u)) cut c.loop-tuple.invariant.0),
       ap (λ (l : List Tuple). l ++ kept_of place q rest) pushed
@@ -94,7 +96,7 @@ loop-tuple-preserved-else-is_there_at g c =
     let rest : Entries = c.next.new.self in
     let items : List Tuple = c.loop-tuple.tuples.items in
     let cut : c.loop-tuple.tuple-iterator ≡ (t, h) ∷ rest = search rules in
-    let gone : there_at (versions_of t h.items) place t ≡ false = ap (λ (l : List Row). there_at (versions_of t l) place t) (sym c.deref.ensures.value) ∙ sym (c.is_there_at.ensures.there t) ∙ c.if-is_there_at.false in (
+    let gone : there_at (versions_of t h) place t ≡ false = ap (λ (l : List Row). there_at (versions_of t l) place t) (sym c.lent.ensures) ∙ sym (c.is_there_at.ensures.there t) ∙ c.if-is_there_at.false in (
       walk_rest (holding x u) t h rest (subst (IsWalk (holding x u)) cut c.loop-tuple.invariant.0),
       ap (λ (l : List Tuple). items ++ l) (sym (skips_first place q t h rest gone)) ∙ ap (λ (l : Entries). items ++ kept_of place q l) (sym cut) ∙ c.loop-tuple.invariant.1,
       c.loop-tuple.invariant.2,
@@ -111,7 +113,9 @@ loop-tuple-preserved g c =
     let rest : Entries = c.next.new.self in
     let items : List Tuple = c.loop-tuple.tuples.items in
     let cut : c.loop-tuple.tuple-iterator ≡ (t, h) ∷ rest = search rules in
-    let misses : q t ≡ false = asked_of x u t (sym c.is_of.ensures ∙ c.if-not-is_of.false) ∙ sym c.is_asked.ensures ∙ c.if-is_asked.false in (
+    let own : is_one_of x t ≡ true = search rules in
+    let asked : is_own_or_set u t ≡ false = search rules in
+    let misses : q t ≡ false = asked_of x u t own ∙ asked in (
       walk_rest (holding x u) t h rest (subst (IsWalk (holding x u)) cut c.loop-tuple.invariant.0),
       ap (λ (l : List Tuple). items ++ l) (sym (passes_first place q t h rest misses)) ∙ ap (λ (l : Entries). items ++ kept_of place q l) (sym cut) ∙ c.loop-tuple.invariant.1,
       c.loop-tuple.invariant.2,

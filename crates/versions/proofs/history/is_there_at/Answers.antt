@@ -1,9 +1,8 @@
-use Rattle.std.proofs.Common.{◌≤◌, length, sym, ap, ◌∙◌, arith}
-use Rattle.std.proofs.lemmas.List.{drop_all}
-use Rattle.versions.proofs.Histories.{there_is_touched, touched}
+use Rattle.std.proofs.Common.{List, ap, ◌∙◌}
+use Rattle.tuples.specs.Versions.{there_at}
+use Rattle.versions.specs.Rows.{versions_of}
+use Rattle.versions.specs.declared.history.Row.{Row}
 use Rattle.versions.proofs.history.is_there_at.Goals as goal
 
 pub returns-clause-there : goal.returns-clause-there
-returns-clause-there g c t =
-    let all : length c.args.rows.now ≤ c.loop-row.row-index = omega arith in
-    sym (there_is_touched c.args.place t c.args.rows.now ∙ c.loop-row.invariant.0 ∙ ap (touched c.args.place c.loop-row.there) (drop_all _ _ all))
+returns-clause-there g c t = c.is_touched_at.ensures.there t ∙ ap (λ (l : List Row). there_at (versions_of t l) c.args.place t) c.as_slice.ensures

@@ -4,5 +4,5 @@ use Rattle.versions.proofs.kept.kept_at.Goals as goal
 
 pub kept_from-requires-clause-first : goal.kept_from-requires-clause-first
 kept_from-requires-clause-first g c =
-    let copy : c.in_ok-copy-in-Key.field-0 ≡ c.in-Key.key = search rules in
-    rw c.in-Key.is (rw copy (key_first c.in-Key.key))
+    let first : c.in_ok-first-in-Key.first ≡ c.in-Key.key = search rules in
+    rw c.in-Key.is (rw first (key_first c.in-Key.key))

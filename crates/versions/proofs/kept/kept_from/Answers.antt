@@ -1,6 +1,6 @@
+use Rattle.tuples.specs.Order.{tuple_cmp}
 use Rattle.std.proofs.Common.{◌≡◌, ◌++◌, ◌∷◌, [], ◌&&◌, true, false, List, filter, sym, ap, subst, ◌∙◌, ◌≤◌, append-nil, append_assoc, arith, rules}
 use Rattle.std.specs.Ordering.{is_le}
-use Rattle.tuples.specs.contracts.tuple.TupleOrd.TheImpl.{ghosts}
 use Rattle.tuples.specs.declared.tuple.Tuple.{Tuple}
 use Rattle.tuples.specs.Versions.{there_at}
 use Rattle.versions.specs.Index.{count_of}
@@ -17,12 +17,12 @@ loop-tuple-init g c =
     let q = g.Q.Asks.asks c.args.asked.now in
     let first = c.args.first in
     let es : Entries = c.args.table.now.entries in
-    let gives : c.into_iter-tuple-iterator.result ≡ filter (λ e. is_le (ghosts.cmp first e.0) && true) es = c.into_iter-tuple-iterator.ensures.into_iter_gives ∙ c.range-tuple-items.ensures.between tt in (
-      subst (IsWalk first) (sym gives) (walk_from first (λ t. is_le (ghosts.cmp first t) && true) (low_from first) es c.requires.table.in_order),
+    let gives : c.into_iter-tuple-iterator.result ≡ filter (λ e. is_le (tuple_cmp first e.0) && true) es = c.into_iter-tuple-iterator.ensures.into_iter_gives ∙ c.range-tuple-items.ensures.between tt in (
+      subst (IsWalk first) (sym gives) (walk_from first (λ t. is_le (tuple_cmp first t) && true) (low_from first) es c.requires.table.in_order),
       ap (λ (l : List Tuple). l ++ kept_of place q c.into_iter-tuple-iterator.result) c.new-tuples.ensures.items
           ∙ ap (λ (l : Entries). kept_of place q l) gives
-          ∙ kept_from_first place q (λ t. is_le (ghosts.cmp first t) && true) (λ t spelled has. from_low first t (c.requires.first.before t spelled has)) es c.requires.table.spelled,
-      let fewer : count_of q (listed c.into_iter-tuple-iterator.result) ≤ count_of q (listed es) = subst (λ (l : Entries). count_of q (listed l) ≤ count_of q (listed es)) (sym gives) (count_fewer q (λ t. is_le (ghosts.cmp first t) && true) es) in
+          ∙ kept_from_first place q (λ t. is_le (tuple_cmp first t) && true) (λ t spelled has. from_low first t (c.requires.first.before t spelled has)) es c.requires.table.spelled,
+      let fewer : count_of q (listed c.into_iter-tuple-iterator.result) ≤ count_of q (listed es) = subst (λ (l : Entries). count_of q (listed l) ≤ count_of q (listed es)) (sym gives) (count_fewer q (λ t. is_le (tuple_cmp first t) && true) es) in
           omega (arith, fewer),
       counted_none c.new-tuples.result.items _ c.new-tuples.ensures.items,
     )
@@ -37,10 +37,10 @@ loop-tuple-preserved g c =
     let items : List Tuple = c.loop-tuple.tuples.items in
     let cut : c.loop-tuple.tuple-iterator ≡ (t, h) ∷ rest = search rules in
     let has : q t ≡ true = search rules in
-    let gone : there_at (versions_of t h.items) place t ≡ false = ap (λ (l : List Row). there_at (versions_of t l) place t) (sym c.deref.ensures.value) ∙ sym (c.is_there_at.ensures.there t) ∙ c.if-is_there_at.false in (
+    let gone : there_at (versions_of t h) place t ≡ false = ap (λ (l : List Row). there_at (versions_of t l) place t) (sym c.lent.ensures) ∙ sym (c.is_there_at.ensures.there t) ∙ c.if-is_there_at.false in (
       walk_rest c.args.first t h rest (subst (IsWalk c.args.first) cut c.loop-tuple.invariant.0),
       ap (λ (l : List Tuple). items ++ l) (sym (skips_first place q t h rest gone)) ∙ ap (λ (l : Entries). items ++ kept_of place q l) (sym cut) ∙ c.loop-tuple.invariant.1,
-      looked q t h rest c.loop-tuple.tuple-iterator _ _ _ has (rows_seen _ _ h.items (sym c.deref.ensures.value) c.is_there_at.ensures.steps) cut c.loop-tuple.invariant.2,
+      looked q t h rest c.loop-tuple.tuple-iterator _ _ _ has (rows_seen _ _ h (sym c.lent.ensures) c.is_there_at.ensures.steps) cut c.loop-tuple.invariant.2,
       c.loop-tuple.invariant.3,
     )
 
@@ -54,7 +54,7 @@ loop-tuple-preserved-in_ok-push g c =
     let items : List Tuple = c.loop-tuple.tuples.items in
     let cut : c.loop-tuple.tuple-iterator ≡ (t, h) ∷ rest = search rules in
     let has : q t ≡ true = search rules in
-    let there : there_at (versions_of t h.items) place t ≡ true = ap (λ (l : List Row). there_at (versions_of t l) place t) (sym c.deref.ensures.value) ∙ sym (c.is_there_at.ensures.there t) ∙ c.if-is_there_at.true in
+    let there : there_at (versions_of t h) place t ≡ true = ap (λ (l : List Row). there_at (versions_of t l) place t) (sym c.lent.ensures) ∙ sym (c.is_there_at.ensures.there t) ∙ c.if-is_there_at.true in
     let pushed : c.push.new.self.items ≡ items ++ t ∷ [] = search rules in (
       walk_rest c.args.first t h rest (subst (IsWalk c.args.first) cut c.loop-tuple.invariant.0),
       ap (λ (l : List Tuple). l ++ kept_of place q rest) pushed
@@ -62,7 +62,7 @@ loop-tuple-preserved-in_ok-push g c =
           ∙ ap (λ (l : List Tuple). items ++ l) (sym (keeps_first place q t h rest has there))
           ∙ ap (λ (l : Entries). items ++ kept_of place q l) (sym cut)
           ∙ c.loop-tuple.invariant.1,
-      looked q t h rest c.loop-tuple.tuple-iterator _ _ _ has (rows_seen _ _ h.items (sym c.deref.ensures.value) c.is_there_at.ensures.steps) cut c.loop-tuple.invariant.2,
+      looked q t h rest c.loop-tuple.tuple-iterator _ _ _ has (rows_seen _ _ h (sym c.lent.ensures) c.is_there_at.ensures.steps) cut c.loop-tuple.invariant.2,
       counted_more items c.push.new.self.items t _ _ _ pushed c.in_ok-copy.ensures.counted c.loop-tuple.invariant.3,
     )
 
@@ -96,7 +96,7 @@ returns-in_err-copy-clause-steps g c =
     let rest : Entries = c.next.new.self in
     let cut : c.loop-tuple.tuple-iterator ≡ (t, h) ∷ rest = search rules in
     let has : q t ≡ true = search rules in
-    within_most q rest _ _ (looked q t h rest c.loop-tuple.tuple-iterator _ _ _ has (rows_seen _ _ h.items (sym c.deref.ensures.value) c.is_there_at.ensures.steps) cut c.loop-tuple.invariant.2)
+    within_most q rest _ _ (looked q t h rest c.loop-tuple.tuple-iterator _ _ _ has (rows_seen _ _ h (sym c.lent.ensures) c.is_there_at.ensures.steps) cut c.loop-tuple.invariant.2)
 
 pub returns-in_err-push-clause-steps : goal.returns-in_err-push-clause-steps
 returns-in_err-push-clause-steps g c =
@@ -106,4 +106,4 @@ returns-in_err-push-clause-steps g c =
     let rest : Entries = c.next.new.self in
     let cut : c.loop-tuple.tuple-iterator ≡ (t, h) ∷ rest = search rules in
     let has : q t ≡ true = search rules in
-    within_most q rest _ _ (looked q t h rest c.loop-tuple.tuple-iterator _ _ _ has (rows_seen _ _ h.items (sym c.deref.ensures.value) c.is_there_at.ensures.steps) cut c.loop-tuple.invariant.2)
+    within_most q rest _ _ (looked q t h rest c.loop-tuple.tuple-iterator _ _ _ has (rows_seen _ _ h (sym c.lent.ensures) c.is_there_at.ensures.steps) cut c.loop-tuple.invariant.2)

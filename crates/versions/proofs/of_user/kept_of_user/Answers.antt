@@ -9,6 +9,7 @@ use Rattle.versions.specs.Alike.{of_tuple}
 use Rattle.tuples.specs.ByUser.{by_user_cmp}
 use Rattle.versions.specs.Budget.{weight}
 use Rattle.versions.specs.Index.{IsFirstOf, is_of_user}
+use Rattle.versions.specs.Kept.{lent_rows}
 use Rattle.versions.specs.Rows.{found, listed, rows_in, versions_of}
 use Rattle.versions.proofs.Counted.{counted_more, counted_none, rows_count, seen, sum_fewer, sum_most, sum_of, unseen}
 use Rattle.versions.proofs.OfUser.{IsWalkBy, asked_of, by_low, chosen_from_first, chosen_of, chosen_selection, index_spelled, keeps_tuple, low_by, met, missed, none_left_by, of_user_meets, skips_tuple, there_by_own, walk_by_from, walk_by_rest}
@@ -88,8 +89,8 @@ returns-in_err-push_counted-clause-steps g c =
     let cut : c.loop-named.named-iterator ≡ t ∷ rest = search rules in
     let tuple : c.in_ok-tuple.tuple ≡ t = search rules in
     let has : q t ≡ true = met (same_name t.object.namespace c.args.asked.namespace.now) (is_eq (user_cmp t.user c.args.asked.user.now)) (has_relation c.args.asked.relation.now t) (search rules) (search rules) in
-    let own : versions_of t c.rows_of.result.now ≡ of_tuple t (listed es) = subst (λ (x : Tuple). versions_of x c.rows_of.result.now ≡ of_tuple x (listed es)) tuple c.rows_of.ensures.versions in
-    let more : c.is_there_at.new.steps ≡ c.loop-named.steps + length (of_tuple t (listed es)) = c.is_there_at.ensures.steps ∙ ap (λ (m : ℕ). c.loop-named.steps + m) (rows_count t c.rows_of.result.now (listed es) own) in
+    let own : versions_of t (lent_rows c.rows_of.result) ≡ of_tuple t (listed es) = subst (λ (x : Tuple). versions_of x (lent_rows c.rows_of.result) ≡ of_tuple x (listed es)) tuple c.rows_of.ensures.versions in
+    let more : c.is_there_at.new.steps ≡ c.loop-named.steps + length (of_tuple t (listed es)) = c.is_there_at.ensures.steps ∙ ap (λ (m : ℕ). c.loop-named.steps + m) (rows_count t (lent_rows c.rows_of.result) (listed es) own) in
     let counted = seen q t (listed es) rest c.loop-named.named-iterator c.is_there_at.new.steps c.loop-named.steps (c.args.steps.now + sum_of q (listed es) c.args.users.now.keys) has more cut c.loop-named.invariant.2 in
     sum_most q (listed es) c.args.users.now.keys rest c.is_there_at.new.steps c.args.steps.now c.range-named-items.ensures.ordered counted
 
@@ -103,12 +104,12 @@ loop-named-preserved-then-is_there_at g c =
     let cut : c.loop-named.named-iterator ≡ t ∷ rest = search rules in
     let tuple : c.in_ok-tuple.tuple ≡ t = search rules in
     let has : q t ≡ true = met (same_name t.object.namespace c.args.asked.namespace.now) (is_eq (user_cmp t.user c.args.asked.user.now)) (has_relation c.args.asked.relation.now t) (search rules) (search rules) in
-    let own : versions_of t c.rows_of.result.now ≡ of_tuple t (listed es) = subst (λ (x : Tuple). versions_of x c.rows_of.result.now ≡ of_tuple x (listed es)) tuple c.rows_of.ensures.versions in
-    let more : c.is_there_at.new.steps ≡ c.loop-named.steps + length (of_tuple t (listed es)) = c.is_there_at.ensures.steps ∙ ap (λ (m : ℕ). c.loop-named.steps + m) (rows_count t c.rows_of.result.now (listed es) own) in
+    let own : versions_of t (lent_rows c.rows_of.result) ≡ of_tuple t (listed es) = subst (λ (x : Tuple). versions_of x (lent_rows c.rows_of.result) ≡ of_tuple x (listed es)) tuple c.rows_of.ensures.versions in
+    let more : c.is_there_at.new.steps ≡ c.loop-named.steps + length (of_tuple t (listed es)) = c.is_there_at.ensures.steps ∙ ap (λ (m : ℕ). c.loop-named.steps + m) (rows_count t (lent_rows c.rows_of.result) (listed es) own) in
     let counted = seen q t (listed es) rest c.loop-named.named-iterator c.is_there_at.new.steps c.loop-named.steps (c.args.steps.now + sum_of q (listed es) c.args.users.now.keys) has more cut c.loop-named.invariant.2 in
     let items : List Tuple = c.loop-named.tuples.items in
     let here : there_in place t es ≡ true =
-    there_by_own place t es c.rows_of.result.now (subst (λ (x : Tuple). c.rows_of.result.now ≡ rows_in (found x es)) tuple c.rows_of.ensures.rows)
+    there_by_own place t es (lent_rows c.rows_of.result) (subst (λ (x : Tuple). (lent_rows c.rows_of.result) ≡ rows_in (found x es)) tuple c.rows_of.ensures.rows)
     ∙ sym (c.is_there_at.ensures.there t) ∙ c.if-is_there_at.true
     in
     let pushed : c.push_counted.new.tuples.items ≡ items ++ t ∷ [] = subst (λ (x : Tuple). c.push_counted.new.tuples.items ≡ items ++ x ∷ []) tuple c.in_ok-push_counted.ensures.0 in (
@@ -139,14 +140,14 @@ loop-named-preserved g c =
     let walk = walk_by_rest c.loop-named.invariant.0.0 t rest (subst (IsWalkBy c.loop-named.invariant.0.0) cut c.loop-named.invariant.0.2) in
     elim c.else-has_given.branch [
       | else-has_given-via-then-has_given+else-is_there_at w ↦
-          let own : versions_of t w.rows_of.result.now ≡ of_tuple t (listed es) = subst (λ (x : Tuple). versions_of x w.rows_of.result.now ≡ of_tuple x (listed es)) tuple w.rows_of.ensures.versions in
+          let own : versions_of t (lent_rows w.rows_of.result) ≡ of_tuple t (listed es) = subst (λ (x : Tuple). versions_of x (lent_rows w.rows_of.result) ≡ of_tuple x (listed es)) tuple w.rows_of.ensures.versions in
           let has : q t ≡ true = met (same_name t.object.namespace c.args.asked.namespace.now) (is_eq (user_cmp t.user c.args.asked.user.now)) (has_relation c.args.asked.relation.now t) (search rules) (search rules) in
           let gone : there_in place t es ≡ false =
-          there_by_own place t es w.rows_of.result.now (subst (λ (x : Tuple). w.rows_of.result.now ≡ rows_in (found x es)) tuple w.rows_of.ensures.rows)
+          there_by_own place t es (lent_rows w.rows_of.result) (subst (λ (x : Tuple). (lent_rows w.rows_of.result) ≡ rows_in (found x es)) tuple w.rows_of.ensures.rows)
           ∙ sym (w.is_there_at.ensures.there t) ∙ w.if-is_there_at.false
           in
           let more : c.else-has_given.steps ≡ c.loop-named.steps + length (of_tuple t (listed es)) =
-          w.steps-is ∙ w.is_there_at.ensures.steps ∙ ap (λ (m : ℕ). c.loop-named.steps + m) (rows_count t w.rows_of.result.now (listed es) own)
+          w.steps-is ∙ w.is_there_at.ensures.steps ∙ ap (λ (m : ℕ). c.loop-named.steps + m) (rows_count t (lent_rows w.rows_of.result) (listed es) own)
           in (
             (c.loop-named.invariant.0.0, c.loop-named.invariant.0.1, walk),
             left (and_right (q t) (there_in place t es) gone),

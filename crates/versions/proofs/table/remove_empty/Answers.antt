@@ -18,11 +18,10 @@ returns-then-is_some-clause-table c = record {
 
 pub returns-then-is_some-clause-versions : goal.returns-then-is_some-clause-versions
 returns-then-is_some-clause-versions c =
-    let none : rows_in (found c.args.tuple.now c.args.table.now.entries) ≡ [] = sym c.rows_of.ensures.rows ∙ nil_from_length c.rows_of.result.now (search rules) in
+    let none : rows_in (found c.args.key.now c.args.table.now.entries) ≡ [] = c.has_rows.ensures c.if-has_rows.false in
     ap listed c.remove.ensures.entries ∙ same_removed _ c.args.table.now.entries none
 
 pub returns-then-is_some-clause-index : goal.returns-then-is_some-clause-index
 returns-then-is_some-clause-index c =
-    let t = c.args.tuple.now in
-    index_changed t t refl None c.args.users.now.keys c.forget.new.users.keys c.args.table.now.entries c.remove.new.self.entries c.requires.index
+    index_changed c.args.tuple.now c.args.key.now (sym c.requires.key) None c.args.users.now.keys c.forget.new.users.keys c.args.table.now.entries c.remove.new.self.entries c.requires.index
     c.forget.ensures (c.remove.ensures.updates).0

@@ -8,5 +8,5 @@ use Rattle.versions.proofs.versions.Versions.last.Goals as goal
 
 pub returns : goal.returns
 returns c =
-    let own : versions_of c.args.tuple.now c.rows_of.result.now ≡ of_tuple c.args.tuple.now c.args.self.now = search rules in
+    let own : versions_of c.args.tuple.now c.as_slice.result.now ≡ of_tuple c.args.tuple.now c.args.self.now = search rules in
     c.last_place.ensures c.args.tuple.now ∙ ap (λ (rows : List Version). last_version rows c.args.tuple.now) own ∙ sym (last_own c.args.self.now c.args.tuple.now)

@@ -1,6 +1,6 @@
 use Rattle.std.proofs.Common.{◌≡◌, ◌+◌, false, drop}
 use Rattle.versions.proofs.Histories.{touched}
-use Rattle.versions.proofs.history.is_there_at.Given as goal
+use Rattle.versions.proofs.history.is_touched_at.Given as goal
 
 -- what the rows from here on make of it, and how many were looked at
 abbrev pub invariant-loop-row : goal.invariant-loop-row
