@@ -2,7 +2,10 @@ pub mod Decides
 pub mod Lands
 pub mod Learns
 pub mod Opens
+pub mod BegunGoods
+pub mod OwnedLists
 pub mod Owners
 pub mod Prepares
 pub mod Unmade
-mod SmallOwners
+mod SmallLists
+pub mod SmallOwners

@@ -1,4 +1,4 @@
--- Small goods of callers: none, and one write that is listed; and mistakes, each refused by a clause.
+-- Small goods of callers: one write that is listed; and mistakes, each refused by a clause.
 use Rattle.std.proofs.Common.{◌≡◌, ℕ, zero, suc, Bool, true, false, List, [], ◌∷◌, Option, Some, None, slice_get, refl, sym, ap, ◌∙◌, arith}
 use Rattle.std.proofs.lemmas.Bool.{both_ways}
 use Rattle.std.proofs.lemmas.Option.{same_Some}
@@ -8,14 +8,14 @@ use Rattle.tuples.proofs.Examples.{numbered, viewed}
 use Rattle.accord.specs.declared.goods.Begun.{Begun}
 use Rattle.accord.specs.Owning.{Owned, OwnersAgree}
 
-abbrev first_write : Entry
+abbrev pub first_write : Entry
 first_write = numbered 1 (Touch (viewed 97) ∷ []) []
 
-abbrev one_begun : Entry → Bool → Begun
+abbrev pub one_begun : Entry → Bool → Begun
 one_begun w is_decided = record { write = w; is_decided = is_decided }
 
 -- what callers 0 and 1 began
-abbrev goods_of : List Begun → List Begun → ℕ → Option (List Begun)
+abbrev pub goods_of : List Begun → List Begun → ℕ → Option (List Begun)
 goods_of one other zero = Some one
 goods_of one other (suc zero) = Some other
 goods_of one other (suc (suc k)) = None
@@ -23,24 +23,14 @@ goods_of one other (suc (suc k)) = None
 abbrev nobody : ℕ → Option (List Begun)
 nobody = goods_of [] []
 
--- with no write at all
-none_agree : OwnersAgree 0 [] [] (λ k. None)
-none_agree = record {
-  once = λ k l i j b d own own' same. let none = own.has in absurd cc;
-  opened = λ k i b w own has same. let none = own.has in absurd cc;
-  listed = λ k i b j w own at same. let none = own.has in absurd cc;
-  all_listed = λ j w at le. absurd cc;
-  all_open = λ w has. absurd (omega (arith, has.1));
-}
-
 of_second : (w : Entry) (is_decided : Bool) (one : List Begun) → Owned (goods_of one (one_begun w is_decided ∷ [])) 1 0 (one_begun w is_decided)
 of_second w is_decided one = record { begun = one_begun w is_decided ∷ []; has = refl; there = refl }
 
-of_first : (w : Entry) (is_decided : Bool) (other : List Begun) → Owned (goods_of (one_begun w is_decided ∷ []) other) 0 0 (one_begun w is_decided)
+pub of_first : (w : Entry) (is_decided : Bool) (other : List Begun) → Owned (goods_of (one_begun w is_decided ∷ []) other) 0 0 (one_begun w is_decided)
 of_first w is_decided other = record { begun = one_begun w is_decided ∷ []; has = refl; there = refl }
 
 -- one write, which the first caller began and decided
-decided_only : (k i : ℕ) (b : Begun) → Owned (goods_of (one_begun first_write true ∷ []) []) k i b → (k ≡ 0) × (i ≡ 0) × (one_begun first_write true ≡ b)
+pub decided_only : (k i : ℕ) (b : Begun) → Owned (goods_of (one_begun first_write true ∷ []) []) k i b → (k ≡ 0) × (i ≡ 0) × (one_begun first_write true ≡ b)
 decided_only zero i b own = at i (ap (λ (l : List Begun). slice_get l i) (same_Some _ _ own.has) ∙ own.there)
   where
     at : (j : ℕ) → slice_get (one_begun first_write true ∷ []) j ≡ Some b → (◌≡◌ {A = ℕ} 0 0) × (j ≡ 0) × (one_begun first_write true ≡ b)
@@ -49,7 +39,7 @@ decided_only zero i b own = at i (ap (λ (l : List Begun). slice_get l i) (same_
 decided_only (suc zero) i b own = let has = own.has in let there = own.there in absurd cc
 decided_only (suc (suc k)) i b own = let has = own.has in absurd cc
 
-one_agrees : OwnersAgree 0 (first_write ∷ []) [] (goods_of (one_begun first_write true ∷ []) [])
+pub one_agrees : OwnersAgree 0 (first_write ∷ []) [] (goods_of (one_begun first_write true ∷ []) [])
 one_agrees = record {
   once = λ k l i j b d own own' same.
       let x = decided_only k i b own in

@@ -1,4 +1,5 @@
 pub mod Agreeing
 pub mod Coordinators
+pub mod OwnedLists
 pub mod Owning
 pub mod Shards

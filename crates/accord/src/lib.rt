@@ -10,6 +10,7 @@
 mod agreeing_laws;
 mod fact;
 mod goods;
+mod owned_list_laws;
 mod owning_laws;
 mod parts;
 
@@ -17,7 +18,11 @@ pub use agreeing_laws::{
     batches_are_learnable, decisions_agree, landings_agree, openings_agree, prepares_agree,
     unmade_nodes_agree, votes_stay_at_decisions, votes_stay_at_prepares,
 };
-pub use fact::Fact;
+pub use fact::{DecidedWrite, Fact};
 pub use goods::Begun;
+pub use owned_list_laws::{
+    aborts_keep_owners, beginnings_keep_owners, callers_begin_with_nothing, decided_writes_stay,
+    decisions_keep_owners, found_lists_are_owned, no_list_is_owned, restarts_keep_owners,
+};
 pub use owning_laws::{owners_decide, undecided_is_unlisted};
-pub use parts::{LogPart, ShardPart};
+pub use parts::{ListPart, LogPart, ShardPart};

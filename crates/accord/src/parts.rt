@@ -21,3 +21,13 @@ pub struct LogPart {
     pub horizon: u64,
     pub open_writes: LinkedList<Entry>,
 }
+
+/// The list of writes as its coordinator has it: how many were found as the store was opened, the list, kept or not, the writes that are open in its memory, its
+/// epoch, and how many ids it has given in that. No value of it is made.
+pub struct ListPart {
+    pub found: u64,
+    pub log: LinkedList<Entry>,
+    pub open_writes: LinkedList<Entry>,
+    pub epoch: u64,
+    pub given: u64,
+}
