@@ -3,6 +3,7 @@ pub mod Lands
 pub mod Learns
 pub mod Opens
 pub mod BegunGoods
+pub mod Following
 pub mod OwnedLists
 pub mod Owners
 pub mod Prepares
