@@ -48,6 +48,14 @@ impl<D: Device, B: Room, G: Gate> Store<D, B, G> {
         place.session(&self.lists)
     }
 
+    /// Another caller, which knows what this one does. It takes no lock.
+    pub fn another(&self, caller: &mut Caller<B>) -> Caller<B>
+        ensures same { caller.new ≡ caller.old }
+        ensures knows { (result.pass ≡ caller.old.pass) × (result.tried ≡ caller.old.tried) }
+    {
+        caller.another(&self.lists)
+    }
+
     /// The place of the last write, by one load. The caller has then seen as many writes. It takes no lock.
     pub fn latest(&self, caller: &mut Caller<B>) -> u64
         ensures caller { IsLater caller.old.pass caller.new.pass }

@@ -157,8 +157,8 @@ impl<W> Published<W> {
         self.table.shared.split_seat::<Notes>(seat)
     }
 
-    // A new pass, which has seen what this pass has.
-    pub(crate) fn note(&self, pass: &mut SessionPass<W>) -> SessionPass<W>
+    /// A new pass, which has seen what this pass has, and learns from the same copy of a shared pass.
+    pub fn note(&self, pass: &mut SessionPass<W>) -> SessionPass<W>
         requires { pass.old.table ≡ self.now }
         ensures same { pass.new ≡ pass.old }
         ensures note { result ≡ pass.old }

@@ -15,6 +15,19 @@ pub struct Caller<B: Room> {
     pub tried: Tried<B>,
 }
 
+impl<B: Room> Caller<B> {
+    /// Another caller, which knows what this one does, and for which nothing was staged yet. It takes no lock.
+    pub fn another(&mut self, lists: &Lists<B>) -> Caller<B>
+        ensures same { self.new ≡ self.old }
+        ensures knows { (result.pass ≡ self.old.pass) × (result.tried ≡ self.old.tried) }
+    {
+        Caller {
+            pass: self.pass.note(lists),
+            tried: self.tried.note(lists),
+        }
+    }
+}
+
 /// A pass of the words of a store's writes. Contracts see it as that.
 #[derive(Drop)]
 pub struct Pass<B: Room> {
@@ -61,6 +74,17 @@ impl<B: Room> Pass<B> {
     {
         lists.writes.share(&mut self.pass, &mut other.pass);
     }
+
+    // A pass that knows what this one does.
+    fn note(&mut self, lists: &Lists<B>) -> Pass<B>
+        ensures same { self.new ≡ self.old }
+        ensures knows { result ≡ self.old }
+    {
+        Pass {
+            pass: lists.writes.note(&mut self.pass),
+            room: PhantomData,
+        }
+    }
 }
 
 /// What a caller knows of all decisions that the coordinator has ever staged, and the number of the flight that carries what was staged for it last. Contracts
@@ -97,5 +121,17 @@ impl<B: Room> Tried<B> {
         ensures { self.new ≡ self.old }
     {
         self.ticket.take()
+    }
+
+    // One that knows what this one does, and has no flight to wait for.
+    fn note(&mut self, lists: &Lists<B>) -> Tried<B>
+        ensures same { self.new ≡ self.old }
+        ensures knows { result ≡ self.old }
+    {
+        Tried {
+            pass: lists.attempts.note(&mut self.pass),
+            ticket: None,
+            room: PhantomData,
+        }
     }
 }
