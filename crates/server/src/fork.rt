@@ -57,7 +57,7 @@ impl<'a, D: Device, B: Room, G: Gate, R: Wait> Fork for StoreFork<'a, D, B, G, R
     ghost begins = { λ session. ∥ (B.rests → HasFound B.first B.low session.known) ∥₁ };
 
     fn another(&mut self) -> StoreSession<'a, D, B, G, R> {
-        let caller = later_caller(self.rt, self.store, &mut self.caller);
+        let caller = self.store.another(&mut self.caller);
         StoreSession::new(self.rt, self.alloc, self.store, self.id, caller, self.share)
     }
 }
