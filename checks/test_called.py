@@ -22,6 +22,7 @@ USAGE = {
     "read": "read [latest | at-least TOKEN | exact TOKEN] TUPLESET..",
     "check": "check [latest | at-least TOKEN | exact TOKEN] TUPLE",
     "watch": "watch TOKEN LIMIT NAMESPACE.., with a limit from 1 to 256",
+    "place": "place TOKEN",
     "": "expected write, read, check, watch or a JSON object",
 }
 UNKNOWN = "it is unknown whether the write was made: read before you send it again"
@@ -221,6 +222,49 @@ def test_follows(folder):
             assert call.end() == (1, "")
             err = call.child.stderr.read()
             assert err.startswith("zanstore: call: the connection ended before an answer: ") and "write" not in err
+
+
+def test_reconnects(folder):
+    """a watch goes on over a new connection from its last heartbeat"""
+    say = advised()
+    answers = [{"events": [], "heartbeat": token(place)} for place in (1, 2)]
+    refused = refusal(8, say[8][0])
+    with MadeUp([answers[0], None, None, answers[1], refused]) as server:
+        status, out, err = called(server.port, "--follow", "--reconnect", "watch", token(0), "1", "doc")
+        assert (status, out) == (1, "".join(map(text_of, [*answers, refused])))
+        ended, why = err.splitlines(True)
+        assert ended.startswith("zanstore: call: the connection ended before an answer: ") and ended.endswith("; connecting again\n")
+        assert why == f"zanstore: call: {say[8][1]}"
+        assert [json.loads(line)["from"] for line in server.sent] == [token(place) for place in (0, 1, 1, 1, 2)]
+        stands = "zanstore: call: --reconnect stands with --follow, before a watch\n"
+        is_called((2, "", stands), called(server.port, "--reconnect", "watch", token(0), "1", "doc"), "no --follow")
+
+
+def test_status(folder):
+    """a check whose answer is the status alone"""
+    say = advised()
+    with Server(folder) as server:
+        called(server.port, "write", f"+{ANN}")
+        is_called((0, "", ""), called(server.port, "--status", "check", ANN), "a member")
+        is_called((1, "", ""), called(server.port, "--status", json.dumps(check(BOB))), "no member")
+        is_called((2, "", f"zanstore: call: {say[7][1]}"), called(server.port, "--status", "check", "exact", token(7), ANN), "refused")
+        is_called((2, "", f"zanstore: call: {USAGE['check']}\n"), called(server.port, "--status", "check"), "no request")
+        stands = "zanstore: call: --status stands before a check, and this is none\n"
+        is_called((2, "", stands), called(server.port, "--status", "read", "doc:readme"), "no check")
+        is_called((2, "", stands), called(server.port, "--status", lines=[f"check {ANN}"]), "a line")
+    assert called(free_port(), "--status", "check", ANN)[0] == 2
+
+
+def test_places(folder):
+    """which store and place a token names, with no server asked"""
+    refused, why = text_of(refusal(5, "BadZookie")), advised()[5][1]
+    port = free_port()
+    is_called((0, "store 99 place 7\n", ""), called(port, "place", token(7, 99)), "a token")
+    is_called((1, refused, f"zanstore: call: {why}"), called(port, "place", "Z"), "no token")
+    with MadeUp([]) as server:
+        found = called(server.port, lines=[f"place {token(3, 1)}", "place", "place Z"])
+        is_called((1, "store 1 place 3\n" + refused, f"zanstore: call: line 2: {USAGE['place']}\nzanstore: call: line 3: {why}"), found, "lines")
+        assert not server.sent
 
 
 def is_line(call, wanted):

@@ -1,7 +1,7 @@
 -- What answers say, and how a watch goes on.
 use Rattle.std.specs.Prelude.{◌≡◌, ◌≤◌, ℕ, List, Option, Some, None, codes, true, option_and_then, option_map, string_bytes}
 use Rattle.serde_json.specs.Data.{Data, depth, object, put, string}
-use Rattle.serde_json.specs.Find.{as_number, as_str, as_u64, get}
+use Rattle.serde_json.specs.Find.{as_bool, as_number, as_str, as_u64, get}
 use Rattle.serde_json.specs.Read.{max_depth, read}
 use Rattle.refusal.specs.declared.refusal.Refusal.{Refusal}
 use Rattle.refusal.specs.Refusals.{number_of}
@@ -24,6 +24,7 @@ pub record Says (kind : Kind) (d : Data) (a : Answered) : Type 0 where
   pub answers : a.is_answer ≡ has_answer kind d
   pub refusal : IsRefusal (told_number d) a.refusal
   pub heartbeat : option_map string_bytes a.heartbeat ≡ option_and_then as_str (get (codes "heartbeat") d)
+  pub member : a.member ≡ option_and_then as_bool (get (codes "member") d)
 
 -- it is one line, a refusal or an answer to such a request, and what that says
 pub record IsAnswer (kind : Kind) (a : Answered) : Type 0 where

@@ -3,3 +3,4 @@ pub mod Reading
 pub mod Answers
 pub mod Kinds
 pub mod Sent
+pub mod Questions

@@ -22,6 +22,8 @@ pub struct Answered {
     pub refusal: Option<Refusal>,
     /// Where a watch goes on.
     pub heartbeat: Option<String>,
+    /// What a check says of the user.
+    pub member: Option<bool>,
     /// Whether it has what an answer to the request has.
     pub is_answer: bool,
 }
@@ -34,11 +36,13 @@ pub fn read_answer(alloc: Global, kind: Kind, line: String) -> Result<Answered, 
     let value = Value::from_str(alloc, line.as_str())?;
     let refusal = refusal_in(&value);
     let heartbeat = heartbeat_in(alloc, &value)?;
+    let member = value.get("member").and_then(Value::as_bool);
     let is_answer = is_answer_to(kind, &value);
     Ok(Answered {
         line,
         refusal,
         heartbeat,
+        member,
         is_answer,
     })
 }

@@ -54,7 +54,8 @@ fn is_asked_again(kind: Kind, refusal: Option<Refusal>) -> bool
     }
 }
 
-fn pause(clock: &impl Clock, number: u64) {
+/// The pause before something is tried again for the time with this number.
+pub(crate) fn pause(clock: &impl Clock, number: u64) {
     let longer = PAUSE_MILLISECONDS.saturating_mul(1 << number.min(10));
     thread::sleep(
         clock,

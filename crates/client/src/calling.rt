@@ -1,38 +1,32 @@
 // Requests, one after another.
-use crate::advising::advice;
-use crate::answer::{Answered, watch_on};
-use crate::ask::ask_again;
-use crate::cause::cause_in;
-use crate::connecting::connect;
+use crate::answer::Answered;
 use crate::end::End;
 use crate::fault::Fault;
+use crate::following::{Watch, follow, follow_anew};
 use crate::kind::{Kind, RequestLine};
 use crate::line::request_line;
 use crate::mistake::Mistake;
 use crate::place::Place;
-use crate::waiting::Waiting;
-use refusal::Refusal;
+use crate::question::{Question, question_of};
+use crate::session::{Session, ask, reach, session_over};
+use crate::showing::{show, tell_refusal};
+use crate::status::{UNTOLD, check_status};
+use crate::token::show_place;
+use crate::words::split_words;
 use settings::CallSettings;
-use std::io::BufReader;
 use std::net::{Net, TcpStream};
-use std::thread;
-use std::time::Duration;
 
 const FAILED: u8 = 1;
 
 // The status of a command line that can't be carried out.
 const USAGE: u8 = 2;
 
-// How long a watch waits if nothing was new.
-const QUIET_MILLISECONDS: u64 = 250;
-
-/// Sends the request of the settings, or each line of standard input, to the server. The status: 0 if each was answered and none refused, 2 if `--follow`
-/// stands before a request that is no watch, and else 1, once standard error is told of each refusal and what to do about it, of each line that is no request,
-/// or why the call ended.
+/// Sends the request of the settings, or each line of standard input, to the server. The status: 0 if each was answered and none refused, 2 if an option
+/// stands before a request that it is not for, and else 1, once standard error is told of each refusal and what to do about it, of each line that is no request,
+/// or why the call ended. With `--status` it is 0 if a check was told a member, 1 if it was told none, and else 2.
 pub fn call<R: Net<Stream = TcpStream>>(net: &R, rt: &HostRuntime, settings: &CallSettings) -> u8 {
     match call_server(net, rt, settings) {
-        Ok(true) => 0,
-        Ok(false) => FAILED,
+        Ok(status) => status,
         Err(end) => tell_end(rt, settings, &end),
     }
 }
@@ -46,27 +40,55 @@ fn tell_end(rt: &HostRuntime, settings: &CallSettings, end: &End) -> u8 {
     } else {
         eprintln!(rt; "zanstore: call: {end}")
     };
-    if matches!(end.fault, Fault::Follow) {
+    if end.fault.is_of_usage() {
         USAGE
+    } else if settings.status {
+        UNTOLD
     } else {
         FAILED
     }
 }
 
-// Whether all were answered, and none refused.
 fn call_server<R: Net<Stream = TcpStream>>(
     net: &R,
     rt: &HostRuntime,
     settings: &CallSettings,
-) -> Result<bool, End> {
-    match &settings.request {
-        Some(text) => call_once(net, rt, settings, text.as_str()),
-        None => {
-            let stream = reach(net, rt, settings)?;
-            let mut session = session_over(rt, &stream, settings)?;
-            take_lines(rt, &mut session)
-        }
+) -> Result<u8, End> {
+    if settings.reconnect && !(settings.follow && settings.request.is_some()) {
+        return Err(End::at(Place::Words, Fault::Reconnect));
     }
+    if settings.status {
+        return call_for_status(net, rt, settings);
+    }
+    let is_well = match &settings.request {
+        Some(text) => call_once(net, rt, settings, text.as_str())?,
+        None => call_lines(net, rt, settings)?,
+    };
+    Ok(if is_well { 0 } else { FAILED })
+}
+
+// Asks one check, whose answer is the status.
+fn call_for_status<R: Net<Stream = TcpStream>>(
+    net: &R,
+    rt: &HostRuntime,
+    settings: &CallSettings,
+) -> Result<u8, End> {
+    let Some(text) = &settings.request else {
+        return Err(End::at(Place::Words, Fault::Status));
+    };
+    let Some(request) = request_at(rt, Place::Words, text.as_str())? else {
+        return Ok(UNTOLD);
+    };
+    if settings.follow || !matches!(request.kind, Kind::Check) {
+        return Err(End::at(Place::Words, Fault::Status));
+    }
+    let stream = reach(net, rt, settings)?;
+    let mut session = session_over(rt, &stream, settings)?;
+    let answered = ask(rt, &mut session, Place::Words, &request)?;
+    if let Some(refusal) = answered.refusal {
+        tell_refusal(rt, Place::Words, &request, refusal);
+    }
+    Ok(check_status(&answered))
 }
 
 // Asks the one request of the command line, which is read before a connection is made.
@@ -76,65 +98,56 @@ fn call_once<R: Net<Stream = TcpStream>>(
     settings: &CallSettings,
     text: &str,
 ) -> Result<bool, End> {
+    let words = words_at(rt, Place::Words, text)?;
+    match question_of(&words) {
+        Ok(None) => call_request(net, rt, settings, text),
+        Ok(Some(_)) if settings.follow => Err(End::at(Place::Words, Fault::Follow)),
+        Ok(Some(question)) => answer(rt, Place::Words, question),
+        Err(mistake) => {
+            tell_mistake(rt, Place::Words, text, mistake);
+            Ok(false)
+        }
+    }
+}
+
+fn call_request<R: Net<Stream = TcpStream>>(
+    net: &R,
+    rt: &HostRuntime,
+    settings: &CallSettings,
+    text: &str,
+) -> Result<bool, End> {
     let Some(request) = request_at(rt, Place::Words, text)? else {
         return Ok(false);
     };
-    if settings.follow && !matches!(request.kind, Kind::Watch) {
-        return Err(End::at(Place::Words, Fault::Follow));
+    if settings.follow {
+        return call_watch(net, rt, settings, request);
     }
     let stream = reach(net, rt, settings)?;
     let mut session = session_over(rt, &stream, settings)?;
     take_request(rt, &mut session, Place::Words, &request)
 }
 
-fn reach<R: Net<Stream = TcpStream>>(
+fn call_watch<R: Net<Stream = TcpStream>>(
     net: &R,
     rt: &HostRuntime,
     settings: &CallSettings,
-) -> Result<TcpStream, End> {
-    match connect(net, rt, settings.address.as_str(), settings.timeout) {
-        Ok(stream) => Ok(stream),
-        Err(error) => {
-            let fault = Fault::of_connecting(error, settings.timeout);
-            Err(End::at(Place::Words, fault))
-        }
+    request: RequestLine,
+) -> Result<bool, End> {
+    if !matches!(request.kind, Kind::Watch) {
+        return Err(End::at(Place::Words, Fault::Follow));
     }
-}
-
-#[derive(Drop)]
-struct Session<'a> {
-    input: BufReader<Waiting<'a, &'a TcpStream, HostRuntime>>,
-    output: &'a TcpStream,
-    retry: u64,
-    follow: bool,
-}
-
-fn session_over<'a>(
-    rt: &'a HostRuntime,
-    stream: &'a TcpStream,
-    settings: &'a CallSettings,
-) -> Result<Session<'a>, End> {
-    let waiting = Waiting {
-        input: stream,
-        rt,
-        address: settings.address.as_str(),
-        timeout: settings.timeout,
-        since: None,
-        is_told: false,
-    };
-    match BufReader::new(rt.alloc(), waiting) {
-        Ok(input) => Ok(Session {
-            input,
-            output: stream,
-            retry: settings.retry,
-            follow: settings.follow,
-        }),
-        Err(_) => Err(End::at(Place::Words, Fault::NoMemory)),
-    }
+    let mut watch = Watch::new(request);
+    follow_anew(net, rt, settings, &mut watch)
 }
 
 // Each line of standard input but for empty ones and notes.
-fn take_lines(rt: &HostRuntime, session: &mut Session<'_>) -> Result<bool, End> {
+fn call_lines<R: Net<Stream = TcpStream>>(
+    net: &R,
+    rt: &HostRuntime,
+    settings: &CallSettings,
+) -> Result<bool, End> {
+    let stream = reach(net, rt, settings)?;
+    let mut session = session_over(rt, &stream, settings)?;
     let mut is_well = true;
     let mut number = 0u64;
     for line in rt.lines(rt.alloc()) {
@@ -145,23 +158,60 @@ fn take_lines(rt: &HostRuntime, session: &mut Session<'_>) -> Result<bool, End> 
             Err(error) => return Err(End::at(place, Fault::Input(error))),
         };
         if !line.is_empty() && !line.starts_with(';') {
-            let is_answered = take(rt, session, place, line.as_str())?;
+            let is_answered = take(rt, &mut session, settings, place, line.as_str())?;
             is_well = is_well && is_answered;
         }
     }
     Ok(is_well)
 }
 
-// One request. Whether it was answered, and not refused.
+// One line. Whether it was answered, and not refused.
 fn take(
     rt: &HostRuntime,
     session: &mut Session<'_>,
+    settings: &CallSettings,
     place: Place,
     text: &str,
 ) -> Result<bool, End> {
-    match request_at(rt, place, text)? {
-        Some(request) => take_request(rt, session, place, &request),
-        None => Ok(false),
+    let words = words_at(rt, place, text)?;
+    match question_of(&words) {
+        Ok(None) => take_text(rt, session, settings, place, text),
+        Ok(Some(question)) => answer(rt, place, question),
+        Err(mistake) => {
+            tell_mistake(rt, place, text, mistake);
+            Ok(false)
+        }
+    }
+}
+
+// Answers what no server is asked.
+fn answer(rt: &HostRuntime, place: Place, question: Question<'_>) -> Result<bool, End> {
+    match question {
+        Question::Place(token) => show_place(rt, place, token),
+    }
+}
+
+fn take_text(
+    rt: &HostRuntime,
+    session: &mut Session<'_>,
+    settings: &CallSettings,
+    place: Place,
+    text: &str,
+) -> Result<bool, End> {
+    let Some(request) = request_at(rt, place, text)? else {
+        return Ok(false);
+    };
+    if settings.follow && matches!(request.kind, Kind::Watch) {
+        let mut watch = Watch::new(request);
+        return follow(rt, session, place, &mut watch);
+    }
+    take_request(rt, session, place, &request)
+}
+
+fn words_at<'a>(rt: &HostRuntime, place: Place, text: &'a str) -> Result<Vec<&'a str>, End> {
+    match split_words(rt.alloc(), text) {
+        Ok(words) => Ok(words),
+        Err(_) => Err(End::at(place, Fault::NoMemory)),
     }
 }
 
@@ -197,132 +247,6 @@ fn take_request(
     place: Place,
     request: &RequestLine,
 ) -> Result<bool, End> {
-    let Answered {
-        line,
-        refusal,
-        heartbeat,
-        ..
-    } = ask(rt, session, place, request)?;
-    let is_answered = show(rt, place, request, line.as_str(), refusal)?;
-    if !session.follow {
-        return Ok(is_answered);
-    }
-    match heartbeat {
-        Some(heartbeat) => follow(rt, session, place, request, heartbeat),
-        None => Ok(is_answered),
-    }
-}
-
-fn ask(
-    rt: &HostRuntime,
-    session: &mut Session<'_>,
-    place: Place,
-    request: &RequestLine,
-) -> Result<Answered, End> {
-    let asked = ask_again(
-        rt,
-        rt.alloc(),
-        &mut session.input,
-        &mut session.output,
-        request,
-        session.retry,
-    );
-    match asked {
-        Ok(answered) => Ok(answered),
-        Err(fault) => Err(End::while_asking(place, request.kind, fault)),
-    }
-}
-
-// Prints the answer, and what is done about a refusal. Whether it is none.
-fn show(
-    rt: &HostRuntime,
-    place: Place,
-    request: &RequestLine,
-    line: &str,
-    refusal: Option<Refusal>,
-) -> Result<bool, End> {
-    if let Err(error) = println!(rt; "{line}") {
-        return Err(End::at(place, Fault::Output(error)));
-    }
-    match refusal {
-        Some(refusal) => {
-            tell_refusal(rt, place, request, refusal);
-            Ok(false)
-        }
-        None => Ok(true),
-    }
-}
-
-// Tells what of the request was refused, if that is seen in it, and else what is done about it.
-fn tell_refusal(rt: &HostRuntime, place: Place, request: &RequestLine, refusal: Refusal) {
-    let _ = match cause_in(rt.alloc(), request.line.as_str(), refusal) {
-        Ok(Some(cause)) => eprintln!(rt; "zanstore: call: {place}{refusal}: {cause}"),
-        _ => {
-            let advice = advice(request.kind, refusal);
-            eprintln!(rt; "zanstore: call: {place}{refusal}: {advice}")
-        }
-    };
-}
-
-// Goes on after a watch from each heartbeat, until it is refused.
-fn follow(
-    rt: &HostRuntime,
-    session: &mut Session<'_>,
-    place: Place,
-    request: &RequestLine,
-    first: String,
-) -> Result<bool, End> {
-    let mut heartbeat = first;
-    for _ in 0..u64::MAX {
-        match follow_once(rt, session, place, request, heartbeat.as_str())? {
-            Some(later) => heartbeat = later,
-            None => return Ok(false),
-        }
-    }
-    Ok(true)
-}
-
-// The next heartbeat. An answer is printed if that has moved.
-fn follow_once(
-    rt: &HostRuntime,
-    session: &mut Session<'_>,
-    place: Place,
-    request: &RequestLine,
-    heartbeat: &str,
-) -> Result<Option<String>, End> {
-    let next = next_watch(rt, place, request, heartbeat)?;
-    let Answered {
-        line,
-        refusal,
-        heartbeat: later,
-        ..
-    } = ask(rt, session, place, &next)?;
-    if has_moved(&later, heartbeat) {
-        show(rt, place, &next, line.as_str(), refusal)?;
-    } else {
-        thread::sleep(rt, Duration::from_millis(QUIET_MILLISECONDS));
-    }
-    Ok(later)
-}
-
-fn next_watch(
-    rt: &HostRuntime,
-    place: Place,
-    request: &RequestLine,
-    heartbeat: &str,
-) -> Result<RequestLine, End> {
-    match watch_on(rt.alloc(), request.line.as_str(), heartbeat) {
-        Ok(line) => match RequestLine::new(rt.alloc(), line) {
-            Ok(next) => Ok(next),
-            Err(_) => Err(End::at(place, Fault::NoMemory)),
-        },
-        Err(error) => Err(End::at(place, error.into())),
-    }
-}
-
-fn has_moved(later: &Option<String>, heartbeat: &str) -> bool {
-    match later {
-        Some(later) => later.as_str() != heartbeat,
-        None => true,
-    }
+    let Answered { line, refusal, .. } = ask(rt, session, place, request)?;
+    show(rt, place, request, line.as_str(), refusal)
 }

@@ -21,6 +21,10 @@ pub enum Fault {
     Stranger,
     /// `--follow` stands before a request that is no watch.
     Follow,
+    /// `--reconnect` stands without `--follow` and a watch.
+    Reconnect,
+    /// `--status` stands before a request that is no check.
+    Status,
     /// Standard input could not be read.
     Input(io::Error),
     /// Standard output could not be written.
@@ -51,6 +55,16 @@ impl Fault {
     pub(crate) fn is_of_connecting(&self) -> bool {
         matches!(self, Fault::Connect(_) | Fault::Unreached)
     }
+
+    /// Whether a new connection may mend it.
+    pub(crate) fn is_of_a_connection(&self) -> bool {
+        self.is_of_connecting() || matches!(self, Fault::Gone(_) | Fault::Late)
+    }
+
+    /// Whether it is that the command line can't be carried out.
+    pub(crate) fn is_of_usage(&self) -> bool {
+        matches!(self, Fault::Follow | Fault::Reconnect | Fault::Status)
+    }
 }
 
 impl fmt::Display for Fault {
@@ -63,6 +77,8 @@ impl fmt::Display for Fault {
             Fault::Answer(error) => write!(f, "an answer can't be read: {error}"),
             Fault::Stranger => write!(f, "an answer can't be read: it is none to such a request"),
             Fault::Follow => write!(f, "--follow stands before a watch, and this is none"),
+            Fault::Reconnect => { write!(f, "--reconnect stands with --follow, before a watch") }
+            Fault::Status => write!(f, "--status stands before a check, and this is none"),
             Fault::Input(error) => write!(f, "the input can't be read: {error}"),
             Fault::Output(error) => write!(f, "the output can't be written: {error}"),
             Fault::NoMemory => write!(f, "no memory"),

@@ -18,6 +18,8 @@ pub enum Mistake {
     Check,
     #[error("watch TOKEN LIMIT NAMESPACE.., with a limit from 1 to 256")]
     Watch,
+    #[error("place TOKEN")]
+    Place,
     #[error("a request is one line")]
     LineFeed,
     #[error("no memory")]

@@ -66,6 +66,8 @@ call_options =
     ∷ number_from 0 MAX_RETRY (codes "retry")
     ∷ number_from 1 MAX_AMOUNT (codes "timeout")
     ∷ flag_named (codes "follow")
+    ∷ flag_named (codes "reconnect")
+    ∷ flag_named (codes "status")
     ∷ rule_taking (codes "words") takes.Rest
     ∷ []
 

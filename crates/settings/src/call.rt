@@ -23,11 +23,12 @@ Options come before the first word of the request. Requests, which may also be l
   read [latest | at-least TOKEN | exact TOKEN] TUPLESET ..
   check [latest | at-least TOKEN | exact TOKEN] TUPLE
   watch TOKEN LIMIT NAMESPACE ..
+  place TOKEN    the store and the place of a token; no server is asked
 On standard input, empty lines and lines that begin with ; are skipped.
 
 Exit status: 0 if each request was answered and none refused; 1 if one was refused or is invalid, if
 the connection failed, ended or gave no answer in time, or if the input or output failed; 2 for a
-command line that can't be read.";
+command line that can't be read. With --status: 0 for a member; 1 for none; 2 otherwise.";
 
 const CALL: &str =
     "Sends requests to a server, one after another, and prints each answer line as it is.
@@ -70,6 +71,20 @@ const PARAMETERS: &[Parameter] = &[
         otherwise: Otherwise::Missing,
     },
     Parameter {
+        name: "reconnect",
+        value_name: "",
+        help: "With --follow: connects anew after an end of the connection, and goes on",
+        takes: Takes::Nothing,
+        otherwise: Otherwise::Missing,
+    },
+    Parameter {
+        name: "status",
+        value_name: "",
+        help: "Prints no answer to a check: the exit status is 0 for a member, 1 for none, and else 2",
+        takes: Takes::Nothing,
+        otherwise: Otherwise::Missing,
+    },
+    Parameter {
         name: "words",
         value_name: "WORDS",
         help: "The words of one request; without any, each line of standard input is one",
@@ -89,6 +104,10 @@ pub struct CallSettings {
     pub timeout: Option<u64>,
     /// Whether a watch goes on from each heartbeat.
     pub follow: bool,
+    /// Whether it does so over a new connection if one ends.
+    pub reconnect: bool,
+    /// Whether the status alone tells what a check was answered.
+    pub status: bool,
     /// The words of one request with a space between, if there are any.
     pub request: Option<String>,
     ghost few: { retry ≤ MAX_RETRY },
@@ -164,6 +183,8 @@ impl Asked for CallSettings {
             retry,
             timeout: number_in(call, "timeout", 1, MAX_AMOUNT),
             follow: call.get_flag("follow"),
+            reconnect: call.get_flag("reconnect"),
+            status: call.get_flag("status"),
             request,
         }))
     }

@@ -75,9 +75,11 @@ zanstore reshard --dir d --to e --store 1 --shards 2 --new-shards 3 --at 1 => Er
 zanstore reshard --dir d --to e --store 1 --shards 2 --new-shards 3 f => Err(2)"#;
 
 const CALL: &str =
-    r#"zanstore call 127.0.0.1:7700 => Ok(CallSettings { address: "127.0.0.1:7700", retry: 0, timeout: None, follow: false, request: None })
-zanstore call h:1 --retry 1000 --timeout=4294967295 --follow write -doc:a#viewer@ann -retry if => Ok(CallSettings { address: "h:1", retry: 1000, timeout: Some(4294967295), follow: true, request: Some("write -doc:a#viewer@ann -retry if") })
-zanstore call h:1 {"op": --x} --retry 1 => Ok(CallSettings { address: "h:1", retry: 0, timeout: None, follow: false, request: Some("{\"op\": --x} --retry 1") })
+    r#"zanstore call 127.0.0.1:7700 => Ok(CallSettings { address: "127.0.0.1:7700", retry: 0, timeout: None, follow: false, reconnect: false, status: false, request: None })
+zanstore call h:1 --retry 1000 --timeout=4294967295 --follow write -doc:a#viewer@ann -retry if => Ok(CallSettings { address: "h:1", retry: 1000, timeout: Some(4294967295), follow: true, reconnect: false, status: false, request: Some("write -doc:a#viewer@ann -retry if") })
+zanstore call h:1 {"op": --x} --retry 1 => Ok(CallSettings { address: "h:1", retry: 0, timeout: None, follow: false, reconnect: false, status: false, request: Some("{\"op\": --x} --retry 1") })
+zanstore call h:1 --follow --reconnect watch Z 1 doc => Ok(CallSettings { address: "h:1", retry: 0, timeout: None, follow: true, reconnect: true, status: false, request: Some("watch Z 1 doc") })
+zanstore call h:1 --status check doc:a#viewer@ann => Ok(CallSettings { address: "h:1", retry: 0, timeout: None, follow: false, reconnect: false, status: true, request: Some("check doc:a#viewer@ann") })
 zanstore call h:1 check doc:a#viewer@ann --retry 1 => Err(2)
 zanstore call h:1 --verbose check doc:a#viewer@ann => Err(2)
 zanstore call h:1 -v => Err(2)

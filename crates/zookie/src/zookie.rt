@@ -38,8 +38,8 @@ impl Zookie {
         Ok(zookie)
     }
 
-    // The token that has the text.
-    fn read(text: &[u8]) -> Option<Zookie>
+    /// The token that has the text, whichever store's it is.
+    pub fn read(text: &[u8]) -> Option<Zookie>
         ensures { MatchOption result (IsNoZookie text.now) (λ z. ArePair z.store z.place × (text.now ≡ zookie_text z.store z.place)) }
     {
         let Some(bytes) = bytes_of_text(text) else {
