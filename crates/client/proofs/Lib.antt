@@ -4,3 +4,5 @@ pub mod Cuts
 pub mod Feeds
 pub mod Reread
 pub mod Asking
+pub mod Meeting
+pub mod Leading

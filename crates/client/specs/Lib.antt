@@ -4,3 +4,5 @@ pub mod Answers
 pub mod Kinds
 pub mod Sent
 pub mod Questions
+pub mod Ways
+pub mod Walks
