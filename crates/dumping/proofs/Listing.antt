@@ -27,7 +27,7 @@ use Rattle.tuples.specs.Log.{is_at}
 use Rattle.tuples.specs.Order.{tuple_eq, tuple_lt}
 use Rattle.tuples.specs.Reads.{AreAscending, IsSelection}
 use Rattle.tuples.proofs.Same.{tuple_same}
-use Rattle.tuples.proofs.Ordered.{same_tie}
+use Rattle.tuples.proofs.Ordered.{same_order, same_tie}
 use Rattle.stores.proofs.FlowBegins.{alone}
 use Rattle.stores.specs.Flows.{to_read}
 use Rattle.stores.specs.Replies.{selected}
@@ -59,7 +59,7 @@ has_same t u keys same is = ap (is_in keys) (tuple_same t u same) ∙ is
 stands_before : (k t : Tuple) (keys : List Tuple) → AllByRecursion (λ u. ghosts.cmp k u ≡ Less) keys → is_in keys t ≡ true → tuple_lt k t ≡ true
 stands_before k t [] all is = absurd (let no : false ≡ true = is in cc)
 stands_before k t (u ∷ keys) all is = ⊎_elim
-    (λ same. ap (tuple_lt k) (tuple_same t u same) ∙ before k u all.0)
+    (λ same. ap (tuple_lt k) (tuple_same t u same) ∙ before k u (sym (same_order k u) ∙ all.0))
     (λ later. stands_before k t keys all.1 later)
     (or_cases (tuple_eq t u) (is_in keys t) (sym (in_first t u keys) ∙ is))
 
